@@ -1,17 +1,17 @@
 -- Counting nodes and counting one bits. Assumes nothing.
-use mathlib.Core.Path.{_≡_, refl, sym, ap, ap₂, _∙_}
+use Prim.Native.Nat.{_%_, _*_, _+_, _/_, _<_, _^_, suc, zero, ℕ}
+use lib.Count.{ones, ones-step, onesIn}
+use lib.Dec.{eqb}
+use lib.ListN.{getD}
+use lib.Pow.{shr-lt, shr-shr}
 use mathlib.Core.Bool.{cond}
 use mathlib.Core.List.{List}
-use Prim.Native.Nat.{ℕ, zero, suc, _+_, _*_, _/_, _%_, _^_, _<_}
-use native.Mathlib.Nat.{zero-add, div-one}
+use mathlib.Core.Path.{_∙_, _≡_, ap, ap₂, refl, sym}
+use native.Mathlib.Nat.{div-one, zero-add}
 use native.Mathlib.Numerals.{add-one, one-add}
-use lib.Pow.{shr-shr, shr-lt}
 use native.Mathlib.Omega.{arith}
-use lib.ListN.{getD}
-use lib.Dec.{eqb}
-use lib.Count.{ones, onesIn, ones-step}
-use Rattle.laws.specs.Places.{countTo}
 use Rattle.laws.proofs.Places.{count-add, count-same}
+use Rattle.laws.specs.Places.{countTo}
 use Rattle.color.specs.Colors.{bit, isBlack}
 
 one-bit : (x : ℕ) → x < 2 → cond (eqb x 1) 1 0 ≡ x

@@ -1,0 +1,9 @@
+pub mod Soundness
+pub mod Sums
+pub mod Accepted
+pub mod Keeps
+pub mod Quiet
+pub mod Start
+pub mod Driver
+pub mod Answers
+pub mod Theorems
