@@ -9,7 +9,7 @@ use Rattle.refusal.specs.declared.Refusal.{Refusal}
 use Rattle.refusal.specs.declared.Verdict.the-variants.{Accepted, Refused}
 use Rattle.ring_rules.specs.Answers.{answerOf, stepTable, verdictOf}
 use Rattle.ring_rules.specs.Driver.{Driven, driveOf, driveTable, mayMove, moveKind, moveLimit, moved}
-use Rattle.ring_rules.specs.Rules.{Announce, Kind, Pass, Probe, conclusive, effect}
+use Rattle.ring_rules.specs.Rules.{Announce, Idle, Kind, Pass, Probe, Take, conclusive, effect}
 use Rattle.ring_rules.specs.Soundness.{Open, Sound, soundTest}
 use Rattle.ring_rules.specs.Start.{firstState, startOf, startTable, startVerdict}
 use Rattle.ring_rules.specs.State.{State}
@@ -89,3 +89,11 @@ pub record DriverCounts : Type 0 where
   pub refused :
       (r : State) (m : ℕ) (e : Refusal) → firstOf (driveTable r m) ≡ Refused e
       → driveOf r m ≡ record { reason = Stopped e; moves = 0; state = r }
+
+-- Fields that a kind does not use are not read.
+pub record FieldsUnread : Type 0 where
+  pub take : (r : State) (i j j′ : ℕ) → answerOf r Take i j ≡ answerOf r Take i j′
+  pub idle : (r : State) (i j j′ : ℕ) → answerOf r Idle i j ≡ answerOf r Idle i j′
+  pub probe : (r : State) (i i′ j j′ : ℕ) → answerOf r Probe i j ≡ answerOf r Probe i′ j′
+  pub pass : (r : State) (i j j′ : ℕ) → answerOf r Pass i j ≡ answerOf r Pass i j′
+  pub announce : (r : State) (i i′ j j′ : ℕ) → answerOf r Announce i j ≡ answerOf r Announce i′ j′
