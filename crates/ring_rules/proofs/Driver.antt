@@ -205,7 +205,7 @@ drives r m o h = subst (Drives r m) (sym (drive-accepted r m o h)) (from-course 
 
 -- ---- a quiet ring
 
-never : (k : Kind) → TokenMove k → k ≡ Announce → ⊥
+pub never : (k : Kind) → TokenMove k → k ≡ Announce → ⊥
 never Probe probing e = let z : _≡_ {A = ℕ} 0 1 = cc in omega arith
 never Pass passing e = let z : _≡_ {A = ℕ} 0 1 = cc in omega arith
 
