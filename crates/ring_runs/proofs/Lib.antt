@@ -1,2 +1,9 @@
 pub mod Trace
 pub mod WholeRun
+pub mod Change
+pub mod Steps
+pub mod Sums
+pub mod Starts
+pub mod Agreed
+pub mod Behaviours
+pub mod Agreement
