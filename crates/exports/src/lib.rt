@@ -108,7 +108,7 @@ pub extern "C" fn ring_is_sound(
 ) -> bool
     ensures { λ b. ⌜ b ≡ soundTest (lent n (now (active .entry)) (now (color .entry)) (now (sent .entry)) (now (received .entry)) (now (pending .entry)) pos q black closed) ⌝ }
 {
-    gathered(
+    let sound = gathered(
         n,
         *active,
         *color,
@@ -119,7 +119,8 @@ pub extern "C" fn ring_is_sound(
         q,
         black,
         closed,
-    ).is_sound()
+    ).is_sound();
+    sound
 }
 
 // 0 for conclusive, 1 for waiting, 2 for spent, and else the number of the refusal.
