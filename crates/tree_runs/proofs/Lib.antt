@@ -1,0 +1,5 @@
+pub mod Numbers
+pub mod Steps
+pub mod Counted
+pub mod Closes
+pub mod WholeRuns
