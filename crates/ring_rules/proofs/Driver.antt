@@ -29,10 +29,10 @@ use Rattle.ring_rules.specs.declared.Reason.the-variants.{Conclusive, Sp
 
 -- ---- the move that the token's position leaves
 
-at-zero : (r : State) → r .pos ≡ 0 → moveKind r ≡ Probe
+pub at-zero : (r : State) → r .pos ≡ 0 → moveKind r ≡ Probe
 at-zero r z = ap (λ (b : Bool). cond b Probe Pass) (eq-eqb (r .pos) 0 z)
 
-above-zero : (r : State) → 0 < r .pos → moveKind r ≡ Pass
+pub above-zero : (r : State) → 0 < r .pos → moveKind r ≡ Pass
 above-zero r h = ap (λ (b : Bool). cond b Probe Pass) (ne-eqb (r .pos) 0 (omega arith))
 
 move-kind : (r : State) → TokenMove (moveKind r)
@@ -71,7 +71,7 @@ may-rule r s e = go (decLt 0 (r .pos))
         (probed z (sym (ap (λ (k : Kind). guard r k (r .pos) 0) (at-zero r z)) ∙ e))
 
 -- an accepted token move of an open state gives an open state
-move-open : (r : State) → Open r → mayMove r ≡ true → Open (moveOf r)
+pub move-open : (r : State) → Open r → mayMove r ≡ true → Open (moveOf r)
 unfolding moveOf
 move-open r o e =
     record {
@@ -83,7 +83,7 @@ move-open r o e =
     same-closed Probe probing = refl
     same-closed Pass passing = refl
 
-move-answer : (r : State) → Open r → mayMove r ≡ true → answerOf r (moveKind r) (r .pos) 0 ≡ record { verdict = Accepted; state = moveOf r }
+pub move-answer : (r : State) → Open r → mayMove r ≡ true → answerOf r (moveKind r) (r .pos) 0 ≡ record { verdict = Accepted; state = moveOf r }
 unfolding moveOf answerOf
 move-answer r o e =
     let v : verdictOf r (moveKind r) (r .pos) 0 ≡ Accepted = accepted r (moveKind r) (r .pos) 0 o (may-rule r (o .sound) e) in

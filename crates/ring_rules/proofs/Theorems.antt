@@ -1,5 +1,6 @@
 -- The statements of specs/Theorems.antt, proved. Assumes nothing.
 use Prim.Native.Nat.{ℕ}
+use lib.ListN.{take}
 use mathlib.Core.Path.{_∙_, _≡_, ap, refl, subst, sym}
 use Rattle.laws.proofs.Tests.{false-true}
 use Rattle.refusal.proofs.Table.{accepts, first-row, none-holds}
@@ -18,7 +19,7 @@ use Rattle.ring_rules.specs.Soundness.{Open, Sound, soundTest}
 use Rattle.ring_rules.specs.Start.{blank, firstState, startOf, startTable, startVerdict}
 use Rattle.ring_rules.specs.State.{State}
 use Rattle.ring_rules.specs.Termination.{Quiet}
-use Rattle.ring_rules.specs.Theorems.{AnnouncedQuiet, DriverCounts, SoundKept, SoundTested, StartAnswered, StepAnswered}
+use Rattle.ring_rules.specs.Theorems.{AnnouncedQuiet, DriverCounts, FieldsUnread, SoundKept, SoundTested, StartAnswered, StepAnswered}
 
 pub sound-tested : SoundTested
 sound-tested = record { holds = sound-true; tested = true-sound }
@@ -76,3 +77,14 @@ announced-quiet =
 
 pub driver-counts : DriverCounts
 driver-counts = record { drives = drives; quiet = drive-ends; bound = moves-bound; refused = drive-refused }
+
+pub fields-unread : FieldsUnread
+unfolding answerOf verdictOf
+fields-unread =
+    record {
+      take = λ r i j j′. refl;
+      idle = λ r i j j′. refl;
+      probe = λ r i i′ j j′. refl;
+      pass = λ r i j j′. refl;
+      announce = λ r i i′ j j′. refl;
+    }

@@ -1,0 +1,71 @@
+use borrow.Author.Needs.{needs}
+use borrow.Author.Tests.{ne-eqb}
+use mathlib.Core.Path.{_∙_}
+use Rattle.ring_rules.proofs.Answers.{closed-answer, kind-answer}
+use Rattle.ring_rules.proofs.Theorems.{fields-unread}
+use Rattle.ring_rules.specs.Rules.{kindOf}
+use Rattle.ring_rules.specs.Soundness.{Open}
+use Rattle.ring_steps.proofs.step.Statement.{statement}
+use Rattle.ring_steps.proofs.step.Tie as tie
+
+returns : tie.Need-returns
+returns c = closed-answer _ (kindOf (c .before .args .kind)) _ _ (c .before .pre) (c .if1 .taken)
+
+send-requires : tie.Need-send-requires
+send-requires c κs = search needs
+
+take-requires : tie.Need-take-requires
+take-requires c κs = search needs
+
+idle-requires : tie.Need-idle-requires
+idle-requires c κs = search needs
+
+probe-requires : tie.Need-probe-requires
+probe-requires c κs = search needs
+
+pass-requires : tie.Need-pass-requires
+pass-requires c κs = search needs
+
+announce-requires : tie.Need-announce-requires
+announce-requires c κs = search needs
+
+returns-2 : tie.Need-returns-2
+returns-2 c = c .send .ensures ∙ rw (c .before .before .before .before .before .before .match .keys1)
+
+returns-3 : tie.Need-returns-3
+returns-3 c = c .take .ensures ∙ rw (c .before .before .before .before .before .before .match .keys2) (fields-unread .take _ _ _ _)
+
+returns-4 : tie.Need-returns-4
+returns-4 c = c .idle .ensures ∙ rw (c .before .before .before .before .before .before .match .keys3) (fields-unread .idle _ _ _ _)
+
+returns-5 : tie.Need-returns-5
+returns-5 c = c .probe .ensures ∙ rw (c .before .before .before .before .before .before .match .keys4) (fields-unread .probe _ _ _ _ _)
+
+returns-6 : tie.Need-returns-6
+returns-6 c = c .pass .ensures ∙ rw (c .before .before .before .before .before .before .match .keys5) (fields-unread .pass _ _ _ _)
+
+returns-7 : tie.Need-returns-7
+returns-7 c = c .announce .ensures ∙ rw (c .before .before .before .before .before .before .match .keys6) (fields-unread .announce _ _ _ _ _)
+
+returns-8 : tie.Need-returns-8
+returns-8 c = let run : Open _ = record { sound = c .before .before .pre; running = c .before .if1 .left } in
+    kind-answer _ (kindOf (c .before .before .args .kind)) _ _ run (rw (ne-eqb _ 1 (c .match .rest .0 .0 .0 .0 .0 .1), ne-eqb _ 2 (c .match .rest .0 .0 .0 .0 .1), ne-eqb _ 3 (c .match .rest .0 .0 .0 .1), ne-eqb _ 4 (c .match .rest .0 .0 .1), ne-eqb _ 5 (c .match .rest .0 .1), ne-eqb _ 6 (c .match .rest .1)))
+
+pub step-spec : {M : Type 1} → statement M
+step-spec =
+    tie.close
+    (tie.spec
+    returns
+    send-requires
+    take-requires
+    idle-requires
+    probe-requires
+    pass-requires
+    announce-requires
+    returns-2
+    returns-3
+    returns-4
+    returns-5
+    returns-6
+    returns-7
+    returns-8)

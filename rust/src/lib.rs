@@ -1,0 +1,15 @@
+//! The update watch once more, in plain Rust: Safra's ring, the tree of
+//! Dijkstra and Scholten, the text of the tree and the log program.
+//! It is written from document 01 ("the paper") alone and serves as the
+//! independent check of the proved implementation.
+#![forbid(unsafe_code)]
+
+mod decimal;
+pub mod generate;
+pub mod log;
+pub mod refusal;
+pub mod request;
+pub mod ring;
+pub mod text;
+pub mod tree;
+pub mod walk;

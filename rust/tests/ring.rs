@@ -1,0 +1,456 @@
+//! The ring by calls: starts, soundness, the six rules and the driver.
+
+use second::refusal::Refusal;
+use second::request::{Request, ANNOUNCE, IDLE, PASS, PROBE, SEND, TAKE};
+use second::ring::{Drive, Reason, Ring, Token};
+
+const ACTIVE: u8 = 1;
+const BLACK: u8 = 2;
+
+fn start(flags: &[u8]) -> Ring {
+    Ring::start(flags.len(), flags).expect("an accepted start")
+}
+
+/// Makes steps that must all be accepted.
+fn after(mut ring: Ring, steps: &[(u32, usize, usize)]) -> Ring {
+    for &(kind, i, j) in steps {
+        assert_eq!(
+            ring.step(Request::new(kind, i, j)),
+            Ok(()),
+            "{kind} {i} {j}"
+        );
+        assert!(ring.is_sound());
+    }
+    ring
+}
+
+/// A refused step leaves the state as it was.
+fn assert_refused(ring: &Ring, (kind, i, j): (u32, usize, usize), refusal: Refusal) {
+    let mut same = ring.clone();
+    assert_eq!(same.step(Request::new(kind, i, j)), Err(refusal));
+    assert_eq!(&same, ring);
+}
+
+fn driven(ring: &Ring, limit: u32) -> (Drive, Ring) {
+    let mut ring = ring.clone();
+    let drive = ring.drive(limit).expect("an accepted drive");
+    (drive, ring)
+}
+
+fn drive(reason: Reason, moves: u32) -> Drive {
+    Drive { reason, moves }
+}
+
+#[test]
+fn start_sets_flags_and_token() {
+    let ring = start(&[0, 1, 2, 3, 0, 0, 0, 0, 2, 1]);
+    let active: Vec<usize> = (0..96).filter(|&i| ring.active[i]).collect();
+    assert_eq!(active, [1, 3, 9]);
+    assert_eq!(ring.color, [0b1100, 1, 0, 0, 0, 0, 0, 0, 0, 0, 0, 0]);
+    assert_eq!(
+        ring.token,
+        Token {
+            pos: 0,
+            q: 0,
+            black: true
+        }
+    );
+    assert_eq!(ring.sent, [0; 96]);
+    assert_eq!(ring.received, [0; 96]);
+    assert_eq!(ring.pending, [0; 96]);
+    assert!(!ring.closed && ring.is_sound());
+    assert_eq!(ring.black_nodes(), 3);
+}
+
+#[test]
+fn start_refuses_sizes_then_flags() {
+    for n in [0, 97, 1_000, usize::MAX] {
+        assert_eq!(Ring::start(n, &[9]), Err(Refusal::Size));
+    }
+    for n in [1, 2, 95, 96] {
+        assert!(Ring::start(n, &vec![3; n]).is_ok());
+        assert_eq!(Ring::start(n, &vec![0; n - 1]), Err(Refusal::Flags));
+        assert_eq!(Ring::start(n, &vec![0; n + 1]), Err(Refusal::Flags));
+        assert_eq!(Ring::start(n, &vec![4; n]), Err(Refusal::Flags));
+    }
+    assert_eq!(Ring::start(3, &[0, 0, 255]), Err(Refusal::Flags));
+}
+
+/// The paper's first run: the listing, four moves, the bound for N = 2.
+#[test]
+fn listing_by_calls() {
+    let first = start(&[0, BLACK]);
+    assert_refused(&first, (ANNOUNCE, 0, 0), Refusal::Condition);
+    let one_round = after(first, &[(PROBE, 0, 0), (PASS, 1, 0)]);
+    assert!(one_round.token.black && !one_round.is_black(1));
+    assert_refused(&one_round, (ANNOUNCE, 0, 0), Refusal::Condition);
+    let closed = after(one_round, &[(PROBE, 0, 0), (PASS, 1, 0), (ANNOUNCE, 0, 0)]);
+    assert!(closed.closed);
+    assert_refused(&closed, (PASS, 1, 0), Refusal::Closed);
+}
+
+/// The second run: quiet at holder 1, then 7 moves.
+#[test]
+fn receipt_behind_the_token_takes_seven_moves() {
+    let quiet = after(
+        start(&[0, ACTIVE, 0]),
+        &[
+            (PROBE, 0, 0),
+            (PASS, 2, 0),
+            (SEND, 1, 2),
+            (TAKE, 2, 0),
+            (IDLE, 1, 0),
+            (IDLE, 2, 0),
+        ],
+    );
+    assert_eq!(quiet.token.pos, 1);
+    assert_eq!((quiet.counter(1), quiet.counter(2)), (1, -1));
+    assert_eq!(driven(&quiet, 7).0, drive(Reason::Conclusive, 7));
+    assert_eq!(driven(&quiet, 1_000).0, drive(Reason::Conclusive, 7));
+    assert_eq!(driven(&quiet, 6).0, drive(Reason::Spent, 6));
+}
+
+/// The third run: then 5 moves.
+#[test]
+fn receipt_before_the_token_takes_five_moves() {
+    let quiet = after(
+        start(&[ACTIVE, 0, ACTIVE]),
+        &[
+            (PROBE, 0, 0),
+            (SEND, 2, 0),
+            (TAKE, 0, 0),
+            (IDLE, 0, 0),
+            (IDLE, 2, 0),
+        ],
+    );
+    assert_eq!(quiet.token.pos, 2);
+    assert_eq!(driven(&quiet, 5).0, drive(Reason::Conclusive, 5));
+    assert_eq!(driven(&quiet, 4).0, drive(Reason::Spent, 4));
+}
+
+#[test]
+fn ring_of_one() {
+    let first = start(&[0]);
+    assert_refused(&first, (ANNOUNCE, 0, 0), Refusal::Condition);
+    let probed = after(first, &[(PROBE, 0, 0)]);
+    assert_refused(&probed, (PROBE, 0, 0), Refusal::Condition);
+    assert_refused(&probed, (PASS, 0, 0), Refusal::Condition);
+    after(probed, &[(ANNOUNCE, 0, 0)]);
+}
+
+#[test]
+fn driver_on_the_first_start() {
+    let first = start(&[0, BLACK]);
+    let (answer, state) = driven(&first, 0);
+    assert_eq!(answer, drive(Reason::Spent, 0));
+    assert_eq!(state, first);
+    let (answer, state) = driven(&first, 3);
+    assert_eq!(answer, drive(Reason::Spent, 3));
+    let moves = [(PROBE, 0, 0), (PASS, 1, 0), (PROBE, 0, 0)];
+    assert_eq!(state, after(first.clone(), &moves));
+    let (answer, state) = driven(&first, 4);
+    assert_eq!(answer, drive(Reason::Conclusive, 4));
+    assert!(!state.closed);
+    assert_eq!(driven(&state, 0).0, drive(Reason::Conclusive, 0));
+}
+
+#[test]
+fn driver_waits_for_an_active_holder() {
+    let ring = start(&[0, ACTIVE, 0]);
+    let (answer, state) = driven(&ring, 1_000);
+    assert_eq!(answer, drive(Reason::Waiting, 2));
+    assert_eq!(state, after(ring, &[(PROBE, 0, 0), (PASS, 2, 0)]));
+    assert_eq!(driven(&state, 0).0, drive(Reason::Waiting, 0));
+}
+
+/// An active node 0 after a white round with the sum 0: neither conclusive nor a move.
+#[test]
+fn driver_waits_for_an_active_node_zero() {
+    let (answer, _) = driven(&start(&[ACTIVE, 0]), 1_000);
+    assert_eq!(answer, drive(Reason::Waiting, 2));
+}
+
+/// A message in transit keeps the sum above 0, so the token goes round until it is spent.
+#[test]
+fn driver_probes_again_for_a_sum_above_zero() {
+    let ring = after(
+        start(&[ACTIVE, 0, 0]),
+        &[(SEND, 0, 1), (IDLE, 0, 0), (PROBE, 0, 0)],
+    );
+    let (answer, state) = driven(&ring, 1_000);
+    assert_eq!(answer, drive(Reason::Spent, 1_000));
+    // 2 passes and a probe are one round of 3 moves: 1,000 moves end after one pass.
+    assert_eq!(state.token.pos, 1);
+}
+
+#[test]
+fn driver_refusals_in_order() {
+    let mut ring = start(&[0, 0]);
+    assert_eq!(ring.drive(1_001), Err(Refusal::MoveLimit));
+    assert_eq!(ring, start(&[0, 0]));
+    let mut closed = after(
+        ring.clone(),
+        &[(PROBE, 0, 0), (PASS, 1, 0), (ANNOUNCE, 0, 0)],
+    );
+    assert_eq!(closed.drive(1_001), Err(Refusal::Closed));
+    closed.active[0] = true;
+    assert_eq!(closed.drive(1_001), Err(Refusal::Unsound));
+}
+
+#[test]
+fn bound_of_every_size() {
+    // All nodes white but N - 1, token black at 0: a round that stays black, one that
+    // turns white. Each round is N moves.
+    for n in 1..=96 {
+        let mut flags = vec![0; n];
+        flags[n - 1] = BLACK;
+        let moves = if n == 1 { 1 } else { 2 * n as u32 };
+        let answer = driven(&start(&flags), 1_000).0;
+        assert_eq!(answer, drive(Reason::Conclusive, moves), "N = {n}");
+    }
+}
+
+#[test]
+fn send_raises_two_counts_and_no_color() {
+    let before = start(&[ACTIVE, 0, 0]);
+    let mut expected = before.clone();
+    expected.sent[0] = 1;
+    expected.pending[2] = 1;
+    assert_eq!(after(before, &[(SEND, 0, 2)]), expected);
+}
+
+#[test]
+fn take_blackens_and_activates() {
+    let before = after(start(&[ACTIVE, 0]), &[(SEND, 0, 1)]);
+    let mut expected = before.clone();
+    expected.pending[1] = 0;
+    expected.received[1] = 1;
+    expected.active[1] = true;
+    expected.color[0] = 0b10;
+    assert_eq!(after(before, &[(TAKE, 1, 0)]), expected);
+}
+
+#[test]
+fn probe_needs_one_of_three_reasons() {
+    let mut ring = start(&[ACTIVE, 0]);
+    ring.token.black = false;
+    assert_refused(&ring, (PROBE, 0, 0), Refusal::Condition);
+    let mut black_token = ring.clone();
+    black_token.token.black = true;
+    let mut black_zero = ring.clone();
+    black_zero.color[0] = 1;
+    let positive = after(ring, &[(SEND, 0, 1)]);
+    for allowed in [black_token, black_zero, positive] {
+        let mut expected = allowed.clone();
+        expected.color[0] = 0;
+        expected.token = Token {
+            pos: 1,
+            q: 0,
+            black: false,
+        };
+        assert_eq!(after(allowed, &[(PROBE, 0, 0)]), expected);
+    }
+}
+
+#[test]
+fn pass_adds_the_counter_and_keeps_black() {
+    let ring = after(
+        start(&[ACTIVE, ACTIVE, 0, BLACK]),
+        &[
+            (SEND, 1, 0),
+            (SEND, 1, 0),
+            (PROBE, 0, 0),
+            (PASS, 3, 0),
+            (PASS, 2, 0),
+        ],
+    );
+    assert!(ring.token.black && ring.token.q == 0);
+    assert_refused(&ring, (PASS, 1, 0), Refusal::Condition);
+    assert_refused(&ring, (PASS, 2, 0), Refusal::Condition);
+    let ring = after(ring, &[(IDLE, 1, 0), (PASS, 1, 0)]);
+    assert_eq!(
+        ring.token,
+        Token {
+            pos: 0,
+            q: 2,
+            black: true
+        }
+    );
+}
+
+#[test]
+fn refusals_in_the_order_of_the_table() {
+    let open = start(&[ACTIVE, 0, 0]);
+    assert_refused(&open, (0, 99, 99), Refusal::Kind);
+    assert_refused(&open, (7, 99, 99), Refusal::Kind);
+    assert_refused(&open, (u32::MAX, 0, 0), Refusal::Kind);
+    for kind in [TAKE, IDLE, PASS] {
+        assert_refused(&open, (kind, 3, 0), Refusal::Node);
+        assert_refused(&open, (kind, usize::MAX, 0), Refusal::Node);
+    }
+    assert_refused(&open, (SEND, 3, 3), Refusal::Node);
+    assert_refused(&open, (SEND, 0, 3), Refusal::Node);
+    assert_refused(&open, (SEND, 3, 0), Refusal::Node);
+    assert_refused(&open, (SEND, 0, 0), Refusal::SelfSend);
+    assert_refused(&open, (SEND, 2, 2), Refusal::SelfSend);
+    assert_refused(&open, (SEND, 2, 0), Refusal::Condition);
+    assert_refused(&open, (TAKE, 1, 0), Refusal::Condition);
+    assert_refused(&open, (IDLE, 1, 0), Refusal::Condition);
+    assert_refused(&open, (PASS, 0, 0), Refusal::Condition);
+    // Numbers that a kind does not use are not read.
+    let mut ring = open.clone();
+    assert_eq!(ring.step(Request::new(IDLE, 0, 99)), Ok(()));
+    assert_eq!(ring.step(Request::new(PROBE, 99, 99)), Ok(()));
+    let closed = after(start(&[0]), &[(PROBE, 0, 0), (ANNOUNCE, 0, 0)]);
+    assert_refused(&closed, (9, 0, 0), Refusal::Closed);
+    assert_refused(&closed, (SEND, 5, 5), Refusal::Closed);
+    let mut unsound = closed;
+    unsound.active[0] = true;
+    assert_refused(&unsound, (9, 0, 0), Refusal::Unsound);
+}
+
+/// By calls, on a sound state with 999,999 accepted sends.
+#[test]
+fn send_limit() {
+    let mut ring = start(&[ACTIVE, 0]);
+    ring.sent[0] = 999_999;
+    ring.received[1] = 999_998;
+    ring.pending[1] = 1;
+    assert!(ring.is_sound());
+    let ring = after(ring, &[(SEND, 0, 1)]);
+    assert_refused(&ring, (SEND, 0, 1), Refusal::SendLimit);
+    assert_refused(&ring, (SEND, 1, 0), Refusal::Condition);
+    let ring = after(ring, &[(TAKE, 1, 0), (TAKE, 1, 0)]);
+    assert_eq!((ring.received[1], ring.pending[1]), (1_000_000, 0));
+    assert_refused(&ring, (SEND, 1, 0), Refusal::SendLimit);
+}
+
+fn assert_unsound(ring: &Ring, change: impl Fn(&mut Ring)) {
+    let mut changed = ring.clone();
+    change(&mut changed);
+    assert!(!changed.is_sound(), "{changed:?}");
+    assert_refused(&changed, (PROBE, 0, 0), Refusal::Unsound);
+}
+
+#[test]
+fn ranges_of_a_sound_state() {
+    let ring = start(&[ACTIVE, 0, 0]);
+    for n in [0, 97, usize::MAX] {
+        assert_unsound(&ring, |ring| ring.n = n);
+    }
+    for pos in [3, 96, usize::MAX] {
+        assert_unsound(&ring, |ring| ring.token.pos = pos);
+    }
+    for place in [3, 95] {
+        assert_unsound(&ring, |ring| ring.active[place] = true);
+        assert_unsound(&ring, |ring| ring.color[place / 8] = 1 << (place % 8));
+        assert_unsound(&ring, |ring| {
+            ring.sent[place] = 1;
+            ring.pending[0] = 1;
+        });
+        assert_unsound(&ring, |ring| {
+            ring.sent[0] = 1;
+            ring.received[place] = 1;
+        });
+        assert_unsound(&ring, |ring| {
+            ring.sent[0] = 1;
+            ring.pending[place] = 1;
+        });
+    }
+}
+
+#[test]
+fn totals_of_a_sound_state() {
+    let ring = start(&[ACTIVE, 0, 0]);
+    assert_unsound(&ring, |ring| ring.sent[0] = 1);
+    assert_unsound(&ring, |ring| ring.received[0] = 1);
+    assert_unsound(&ring, |ring| ring.pending[0] = 1);
+    assert_unsound(&ring, |ring| {
+        ring.sent[0] = 1_000_001;
+        ring.pending[1] = 1_000_001;
+    });
+    // These totals would agree if they were cut to 32 bits.
+    assert_unsound(&ring, |ring| {
+        ring.sent[0] = 1;
+        ring.received = [0; 96];
+        ring.received[0] = u32::MAX;
+        ring.pending[0] = 2;
+    });
+    assert_unsound(&ring, |ring| {
+        ring.n = 96;
+        ring.sent = [u32::MAX; 96];
+        ring.received = [u32::MAX; 96];
+        ring.pending = [u32::MAX; 96];
+    });
+    // Soundness does not ask who sent what to whom.
+    let mut strange = start(&[0]);
+    strange.sent[0] = 1_000_000;
+    strange.pending[0] = 1_000_000;
+    assert!(strange.is_sound());
+}
+
+#[test]
+fn range_of_q() {
+    for (pos, bound) in [(0, 2_000_000), (1, 1_000_000), (2, 0)] {
+        let mut ring = start(&[0, 0, 0]);
+        ring.token.pos = pos;
+        for q in [bound, -bound] {
+            ring.token.q = q;
+            assert!(ring.is_sound());
+        }
+        for q in [bound + 1, -bound - 1, i64::MAX, i64::MIN] {
+            assert_unsound(&ring, |ring| ring.token.q = q);
+        }
+    }
+}
+
+#[test]
+fn safra_s_four() {
+    // Node 2 lies above the token and is active, and nothing is black: none of the four.
+    let mut none = start(&[0, 0, ACTIVE]);
+    none.token.pos = 1;
+    none.token.black = false;
+    assert_unsound(&none, |_| {});
+    let mut first = none.clone();
+    first.active[2] = false;
+    assert!(first.is_sound());
+    first.token.q = -1;
+    assert!(!first.is_sound());
+    let mut second = none.clone();
+    second.token.q = 1;
+    assert!(second.is_sound());
+    second.sent[0] = 1;
+    second.received[1] = 1;
+    assert!(second.is_sound());
+    second.sent = [0; 96];
+    second.sent[2] = 1;
+    // Now q + the counters of 0 and 1 is 1 - 1 = 0.
+    assert!(!second.is_sound());
+    for i in [0, 1] {
+        let mut third = none.clone();
+        third.color[0] = 1 << i;
+        assert!(third.is_sound());
+    }
+    let mut above = none.clone();
+    above.color[0] = 0b100;
+    assert!(!above.is_sound());
+    let mut fourth = none;
+    fourth.token.black = true;
+    assert!(fourth.is_sound());
+}
+
+#[test]
+fn closed_states() {
+    let closed = after(
+        start(&[0, 0]),
+        &[(PROBE, 0, 0), (PASS, 1, 0), (ANNOUNCE, 0, 0)],
+    );
+    assert_unsound(&closed, |ring| ring.token.black = true);
+    assert_unsound(&closed, |ring| ring.color[0] = 1);
+    assert_unsound(&closed, |ring| ring.active[0] = true);
+    assert_unsound(&closed, |ring| ring.token.q = 1);
+    assert_unsound(&closed, |ring| ring.token.pos = 1);
+    let mut black_above = closed;
+    black_above.color[0] = 0b10;
+    assert!(black_above.is_sound());
+}

@@ -1,0 +1,246 @@
+//! The tree by calls: starts, soundness and the six rules.
+
+use second::refusal::Refusal;
+use second::request::{Request, ACK, ANNOUNCE, IDLE, LEAVE, SEND, TAKE};
+use second::tree::{Tree, NONE};
+
+fn start(n: usize, root: usize) -> Tree {
+    Tree::start(n, root).expect("an accepted start")
+}
+
+/// Makes steps that must all be accepted.
+fn after(mut tree: Tree, steps: &[(u32, usize, usize)]) -> Tree {
+    for &(kind, i, j) in steps {
+        assert_eq!(
+            tree.step(Request::new(kind, i, j)),
+            Ok(()),
+            "{kind} {i} {j}"
+        );
+        assert!(tree.is_sound());
+    }
+    tree
+}
+
+/// A refused step leaves the state as it was.
+fn assert_refused(tree: &Tree, (kind, i, j): (u32, usize, usize), refusal: Refusal) {
+    let mut same = tree.clone();
+    assert_eq!(same.step(Request::new(kind, i, j)), Err(refusal));
+    assert_eq!(&same, tree);
+}
+
+#[test]
+fn starts() {
+    let tree = start(3, 2);
+    assert!(tree.is_sound());
+    assert_eq!(
+        tree.engager[..4],
+        [NONE, NONE, 2, NONE],
+        "only the root is engaged"
+    );
+    let active: Vec<usize> = (0..16).filter(|&i| tree.active[i]).collect();
+    assert_eq!(active, [2]);
+    for n in [0, 17, 96, usize::MAX] {
+        assert_eq!(Tree::start(n, n), Err(Refusal::Size));
+    }
+    for n in [1, 2, 16] {
+        assert!(Tree::start(n, n - 1).is_ok());
+        assert_eq!(Tree::start(n, n), Err(Refusal::Node));
+        assert_eq!(Tree::start(n, usize::MAX), Err(Refusal::Node));
+    }
+}
+
+/// The paper's tree of 3 with root 0.
+#[test]
+fn run_to_check() {
+    let left = after(
+        start(3, 0),
+        &[
+            (SEND, 0, 1),
+            (TAKE, 1, 0),
+            (IDLE, 0, 0),
+            (IDLE, 1, 0),
+            (LEAVE, 1, 0),
+        ],
+    );
+    assert_refused(&left, (ANNOUNCE, 0, 0), Refusal::Condition);
+    let closed = after(left, &[(ACK, 0, 0), (ANNOUNCE, 0, 0)]);
+    assert!(closed.closed);
+    assert_refused(&closed, (9, 99, 99), Refusal::Closed);
+}
+
+#[test]
+fn engaging_message_is_acknowledged_by_leaving() {
+    let engaged = after(start(3, 0), &[(SEND, 0, 1), (TAKE, 1, 0)]);
+    assert_eq!((engaged.engager[1], engaged.acks[0]), (0, 0));
+    assert_eq!(engaged.unacked[0], 1);
+    let again = after(engaged, &[(SEND, 0, 1), (TAKE, 1, 0)]);
+    assert_eq!((again.acks[0], again.unacked[0]), (1, 2));
+    let to_root = after(again, &[(SEND, 1, 0), (TAKE, 0, 1)]);
+    assert_eq!(to_root.engager[0], 0);
+    assert_eq!((to_root.acks[1], to_root.unacked[1]), (1, 1));
+    let passive = after(to_root, &[(IDLE, 1, 0)]);
+    assert_refused(&passive, (LEAVE, 1, 0), Refusal::Condition);
+    let left = after(passive, &[(ACK, 1, 0), (LEAVE, 1, 0)]);
+    assert_eq!((left.engager[1], left.acks[0]), (NONE, 2));
+    assert_refused(&left, (LEAVE, 1, 0), Refusal::Condition);
+}
+
+#[test]
+fn announcing_needs_a_passive_root_without_unacked() {
+    let tree = start(2, 0);
+    assert_refused(&tree, (ANNOUNCE, 0, 0), Refusal::Condition);
+    let waiting = after(tree, &[(SEND, 0, 1), (IDLE, 0, 0)]);
+    assert_refused(&waiting, (ANNOUNCE, 0, 0), Refusal::Condition);
+    after(start(1, 0), &[(IDLE, 0, 0), (ANNOUNCE, 0, 0)]);
+}
+
+#[test]
+fn take_moves_one_message_of_its_pair() {
+    let sent = after(start(4, 1), &[(SEND, 1, 3), (SEND, 1, 3), (SEND, 1, 0)]);
+    assert_eq!(sent.sends, 3);
+    assert_refused(&sent, (TAKE, 1, 3), Refusal::Condition);
+    assert_refused(&sent, (TAKE, 3, 3), Refusal::Condition);
+    let taken = after(sent, &[(TAKE, 3, 1)]);
+    assert_eq!((taken.in_transit[1][3], taken.in_transit[1][0]), (1, 1));
+    assert!(taken.active[3] && taken.engager[3] == 1);
+}
+
+#[test]
+fn refusals_in_the_order_of_the_table() {
+    let open = start(3, 0);
+    for kind in [0, 7, u32::MAX] {
+        assert_refused(&open, (kind, 99, 99), Refusal::Kind);
+    }
+    for kind in [IDLE, ACK, LEAVE] {
+        assert_refused(&open, (kind, 3, 0), Refusal::Node);
+    }
+    for kind in [SEND, TAKE] {
+        assert_refused(&open, (kind, 3, 0), Refusal::Node);
+        assert_refused(&open, (kind, 0, 3), Refusal::Node);
+        assert_refused(&open, (kind, 16, 16), Refusal::Node);
+        assert_refused(&open, (kind, usize::MAX, usize::MAX), Refusal::Node);
+    }
+    assert_refused(&open, (SEND, 2, 2), Refusal::SelfSend);
+    assert_refused(&open, (SEND, 2, 0), Refusal::Condition);
+    assert_refused(&open, (TAKE, 1, 0), Refusal::Condition);
+    assert_refused(&open, (IDLE, 1, 0), Refusal::Condition);
+    assert_refused(&open, (ACK, 0, 0), Refusal::Condition);
+    assert_refused(&open, (LEAVE, 0, 0), Refusal::Condition);
+    assert_refused(&open, (LEAVE, 1, 0), Refusal::Condition);
+    // Numbers that a kind does not use are not read.
+    let mut tree = open;
+    assert_eq!(tree.step(Request::new(IDLE, 0, 99)), Ok(()));
+    assert_refused(&tree, (LEAVE, 0, 0), Refusal::Condition);
+    assert_eq!(tree.step(Request::new(ANNOUNCE, 99, 99)), Ok(()));
+    assert_refused(&tree, (SEND, 1, 1), Refusal::Closed);
+    tree.active[0] = true;
+    assert_refused(&tree, (SEND, 1, 1), Refusal::Unsound);
+}
+
+#[test]
+fn send_limit() {
+    let mut tree = start(2, 0);
+    tree.sends = 999_999;
+    let tree = after(tree, &[(SEND, 0, 1)]);
+    assert_refused(&tree, (SEND, 0, 1), Refusal::SendLimit);
+    assert_refused(&tree, (SEND, 1, 0), Refusal::Condition);
+    let tree = after(tree, &[(TAKE, 1, 0)]);
+    assert_refused(&tree, (SEND, 1, 0), Refusal::SendLimit);
+}
+
+fn assert_unsound(tree: &Tree, change: impl Fn(&mut Tree)) {
+    let mut changed = tree.clone();
+    change(&mut changed);
+    assert!(!changed.is_sound(), "{changed:?}");
+    assert_refused(&changed, (IDLE, 0, 0), Refusal::Unsound);
+}
+
+#[test]
+fn ranges_of_a_sound_state() {
+    let tree = start(3, 0);
+    for n in [0, 17, usize::MAX] {
+        assert_unsound(&tree, |tree| tree.n = n);
+    }
+    for root in [1, 3, 16, usize::MAX] {
+        assert_unsound(&tree, |tree| tree.root = root);
+    }
+    for engager in [3, 15, 17, usize::MAX] {
+        assert_unsound(&tree, |tree| tree.engager[1] = engager);
+    }
+    assert_unsound(&tree, |tree| tree.engager[0] = NONE);
+    assert_unsound(&tree, |tree| tree.active[3] = true);
+    assert_unsound(&tree, |tree| tree.engager[3] = 0);
+    assert_unsound(&tree, |tree| tree.engager[15] = 0);
+    let mut counted = tree;
+    counted.sends = 9;
+    assert!(counted.is_sound());
+    assert_unsound(&counted, |tree| {
+        tree.unacked[3] = 1;
+        tree.acks[3] = 1;
+    });
+    assert_unsound(&counted, |tree| {
+        tree.unacked[0] = 1;
+        tree.in_transit[0][3] = 1;
+    });
+    assert_unsound(&counted, |tree| {
+        tree.unacked[0] = 1;
+        tree.in_transit[0][0] = 1;
+    });
+    assert_unsound(&counted, |tree| tree.in_transit[15][15] = 1);
+}
+
+#[test]
+fn chains_and_counts_of_a_sound_state() {
+    let mut tree = start(4, 0);
+    tree.sends = 1_000_000;
+    assert!(tree.is_sound());
+    assert_unsound(&tree, |tree| tree.sends = 1_000_001);
+    assert_unsound(&tree, |tree| tree.sends = u32::MAX);
+    assert_unsound(&tree, |tree| tree.active[1] = true);
+    assert_unsound(&tree, |tree| tree.unacked[0] = 1);
+    assert_unsound(&tree, |tree| tree.acks[0] = 1);
+    assert_unsound(&tree, |tree| tree.in_transit[0][1] = 1);
+    assert_unsound(&tree, |tree| tree.engager[1] = 0);
+    // A node outside the tree has nothing unacknowledged, even if it would agree.
+    assert_unsound(&tree, |tree| {
+        tree.unacked[1] = 1;
+        tree.acks[1] = 1;
+    });
+    // Nodes that engage each other do not reach the root.
+    assert_unsound(&tree, |tree| {
+        tree.engager[1] = 2;
+        tree.engager[2] = 1;
+        tree.unacked[1] = 1;
+        tree.unacked[2] = 1;
+    });
+    assert_unsound(&tree, |tree| {
+        tree.engager[1] = 1;
+        tree.unacked[1] = 1;
+    });
+    // A chain that ends outside the tree.
+    assert_unsound(&tree, |tree| {
+        tree.engager[1] = 2;
+        tree.unacked[2] = 1;
+    });
+    let mut chain = tree.clone();
+    chain.engager[1..4].copy_from_slice(&[2, 3, 0]);
+    chain.unacked[..4].copy_from_slice(&[1, 0, 1, 1]);
+    assert!(chain.is_sound());
+    chain.sends = 3;
+    assert!(chain.is_sound());
+    assert_unsound(&chain, |tree| tree.sends = 2);
+    // Counts that would agree if they were cut to 32 bits.
+    assert_unsound(&tree, |tree| {
+        tree.in_transit[0][1] = u32::MAX;
+        tree.acks[0] = 1;
+    });
+}
+
+#[test]
+fn closed_states() {
+    let closed = after(start(2, 1), &[(IDLE, 1, 0), (ANNOUNCE, 0, 0)]);
+    assert_unsound(&closed, |tree| tree.active[1] = true);
+    let mut open = start(2, 1);
+    open.closed = true;
+    assert!(!open.is_sound());
+}
