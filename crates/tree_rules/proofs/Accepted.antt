@@ -31,7 +31,7 @@ pub data Rule (t : State) (i j : ℕ) : Kind → Type 0 where
   sends : i < t .n → j < t .n → i ≢ j → activeAt t i ≡ true → t .sends < sendLimit → Rule t i j Send
   takes : i < t .n → j < t .n → 0 < transitAt t j i → Rule t i j Take
   idles : i < t .n → activeAt t i ≡ true → Rule t i j Idle
-  acks : i < t .n → 0 < acksAt t i → Rule t i j Ack
+  acknowledges : i < t .n → 0 < acksAt t i → Rule t i j Ack
   leaves : i < t .n → Leaver t i → Rule t i j Leave
   announces : Conclusion t → Rule t i j Announce
 
@@ -45,7 +45,7 @@ pub true-conclusive : (t : State) → Conclusion t → conclusive t ≡ true
 unfolding conclusive
 true-conclusive t c = both-true (not-eq (c .passive)) (eq-eqb _ _ (c .settled))
 
-leave-true : (t : State) (i : ℕ) → mayLeave t i ≡ true → Leaver t i
+pub leave-true : (t : State) (i : ℕ) → mayLeave t i ≡ true → Leaver t i
 unfolding mayLeave
 leave-true t i e =
     let p = both _ _ e in
@@ -77,7 +77,7 @@ rule t Send i j u o s g p =
     sends (leb-false _ _ (q .0)) (leb-false _ _ (q .1)) (eqb-false _ _ s) g (leb-false _ _ p)
 rule t Take i j u o s g p = let q = neither _ _ o in takes (leb-false _ _ (q .0)) (leb-false _ _ (q .1)) (ltb-true _ _ g)
 rule t Idle i j u o s g p = idles (leb-false _ _ o) g
-rule t Ack i j u o s g p = acks (leb-false _ _ o) (ltb-true _ _ g)
+rule t Ack i j u o s g p = acknowledges (leb-false _ _ o) (ltb-true _ _ g)
 rule t Leave i j u o s g p = leaves (leb-false _ _ o) (leave-true t i g)
 rule t Announce i j u o s g p = announces (conclusive-true t g)
 rule t Unknown i j u o s g p = absurd (false-true (sym u))
@@ -94,7 +94,7 @@ pub rule-guard : (t : State) (k : Kind) (i j : ℕ) → Rule t i j k → guard t
 rule-guard t Send i j (sends hi hj ne act lim) = act
 rule-guard t Take i j (takes hi hj m) = lt-ltb _ _ m
 rule-guard t Idle i j (idles hi act) = act
-rule-guard t Ack i j (acks hi a) = lt-ltb _ _ a
+rule-guard t Ack i j (acknowledges hi a) = lt-ltb _ _ a
 rule-guard t Leave i j (leaves hi l) = true-leave t i l
 rule-guard t Announce i j (announces c) = true-conclusive t c
 
@@ -110,7 +110,7 @@ passed t Send i j (sends hi hj ne act lim) =
     record { known = refl; inside = rw (lt-leb _ _ hi, lt-leb _ _ hj); other = ne-eqb _ _ ne; room = lt-leb _ _ lim }
 passed t Take i j (takes hi hj m) = record { known = refl; inside = rw (lt-leb _ _ hi, lt-leb _ _ hj); other = refl; room = refl }
 passed t Idle i j (idles hi act) = record { known = refl; inside = lt-leb _ _ hi; other = refl; room = refl }
-passed t Ack i j (acks hi a) = record { known = refl; inside = lt-leb _ _ hi; other = refl; room = refl }
+passed t Ack i j (acknowledges hi a) = record { known = refl; inside = lt-leb _ _ hi; other = refl; room = refl }
 passed t Leave i j (leaves hi l) = record { known = refl; inside = lt-leb _ _ hi; other = refl; room = refl }
 passed t Announce i j (announces c) = record { known = refl; inside = refl; other = refl; room = refl }
 

@@ -3,7 +3,7 @@
 use Prim.Native.Nat.{_*_, _+_, _<_, _≤_, ℕ}
 use borrow.Author.Tests.{eq-eqb, eqb-false, eqb-true, ne-eqb, not-false, not-true}
 use lib.ListN.{getD, length}
-use mathlib.Core.Bool.{false, not, true}
+use mathlib.Core.Bool.{Bool, cond, false, not, true}
 use mathlib.Core.Logic.{_≢_, _⊎_, inl, inr}
 use mathlib.Core.Path.{_∙_, _≡_, ap, refl, sym}
 use native.Mathlib.Decide.{decLt, ℕ-discrete}
@@ -196,3 +196,9 @@ take-cases P t i k f g =
       | yes e ↦ rw (false-engaged t i e) (f e)
       | no e ↦ rw (true-engaged t i e) (g e)
     ]
+
+pub take-engages : (t : State) (i k : ℕ) → engagerAt t i ≡ 16 → engageOf t i k ≡ takeOf t i k
+take-engages t i k e = sym (ap (λ (b : Bool). cond b (replyOf t i k) (engageOf t i k)) (false-engaged t i e))
+
+pub take-replies : (t : State) (i k : ℕ) → engagerAt t i ≢ 16 → replyOf t i k ≡ takeOf t i k
+take-replies t i k e = sym (ap (λ (b : Bool). cond b (replyOf t i k) (engageOf t i k)) (true-engaged t i e))

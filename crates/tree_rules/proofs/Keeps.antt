@@ -8,7 +8,7 @@ use mathlib.Core.Path.{_∙_, _≡_, ap, sym}
 use native.Mathlib.Decide.{ℕ-discrete}
 use native.Mathlib.Omega.{arith}
 use Rattle.laws.proofs.Indicators.{ind, ind-ne, lowered-at, raised-at, set-here, sum-lowered, sum-raised}
-use Rattle.tree_rules.proofs.Accepted.{Conclusion, Rule, acks, announces, idles, leaves, sends, takes, true-conclusive}
+use Rattle.tree_rules.proofs.Accepted.{Conclusion, Rule, acknowledges, announces, idles, leaves, sends, takes, true-conclusive}
 use Rattle.tree_rules.proofs.Engages.{leave-keeps, take-keeps}
 use Rattle.tree_rules.proofs.Facts.{Balanced, Facts, active-engaged, facts, in-acks, in-range, in-transit, in-unacked, sound, still-open}
 use Rattle.tree_rules.proofs.Sums.{from-raised}
@@ -167,7 +167,7 @@ module _ (t : State) (f : Facts t) (running : t .closed ≡ false) where
   keeps-facts Send i j (sends hi hj ne act lim) = send-keeps i j hi hj ne act lim
   keeps-facts Take i j (takes hi hj m) = take-keeps t f running i j hi hj m
   keeps-facts Idle i j (idles hi act) = idle-keeps i hi
-  keeps-facts Ack i j (acks hi a) = ack-keeps i hi a
+  keeps-facts Ack i j (acknowledges hi a) = ack-keeps i hi a
   keeps-facts Leave i j (leaves hi l) = leave-keeps t f running i hi l
   keeps-facts Announce i j (announces c) = announce-keeps c
 

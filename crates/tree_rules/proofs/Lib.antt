@@ -5,6 +5,7 @@ pub mod Soundness
 pub mod Accepted
 pub mod Engages
 pub mod Keeps
+pub mod Bounds
 pub mod Quiet
 pub mod Start
 pub mod Answers

@@ -12,7 +12,7 @@ use native.Mathlib.Omega.{arith}
 use Rattle.laws.proofs.Indicators.{sum-lowered, sum-raised}
 use Rattle.laws.proofs.Sums.{count-some, count-sum, count-zero, count-zero-at, sum-at, sum-some, sum-zero, sum-zero-at}
 use Rattle.laws.proofs.Tests.{both, both-true, false-true, not-eq, split}
-use Rattle.tree_rules.proofs.Accepted.{Conclusion, Leaver, Rule, acks, announces, idles, leaves, sends, takes}
+use Rattle.tree_rules.proofs.Accepted.{Conclusion, Leaver, Rule, acknowledges, announces, idles, leaves, sends, takes}
 use Rattle.tree_rules.proofs.Chains.{leaf, lonely, under-nobody}
 use Rattle.tree_rules.proofs.Engages.{engager-16}
 use Rattle.tree_rules.proofs.Facts.{Facts, engaged-true, facts, in-acks, in-engager, in-range, root-16, transit-unacked, true-engaged, unacked-engaged}
@@ -192,7 +192,7 @@ module _ (t : State) (s : Sound t) (q : Quiet t) where
   quiet-only Send i j (sends hi hj ne act lim) = absurd (false-true (sym (q .passive i hi) ∙ act))
   quiet-only Take i j (takes hi hj m) = absurd (omega (arith, q .empty j i hj hi))
   quiet-only Idle i j (idles hi act) = absurd (false-true (sym (q .passive i hi) ∙ act))
-  quiet-only Ack i j (acks hi a) = inl acknowledging
+  quiet-only Ack i j (acknowledges hi a) = inl acknowledging
   quiet-only Leave i j (leaves hi l) = inl leaving
   quiet-only Announce i j (announces c) = inr refl
 
@@ -200,7 +200,7 @@ module _ (t : State) (s : Sound t) (q : Quiet t) where
   pub quiet-stays :
       t .closed ≡ false → (k : Kind) (i j : ℕ) → Closing k → Rule t i j k
       → Quiet (effect t k i j) × (stepsLeft (effect t k i j) + 1 ≡ stepsLeft t)
-  quiet-stays o Ack i j c (acks hi a) = (record { passive = q .passive; empty = q .empty }, ack-takes t (facts t s) i hi a)
+  quiet-stays o Ack i j c (acknowledges hi a) = (record { passive = q .passive; empty = q .empty }, ack-takes t (facts t s) i hi a)
   quiet-stays o Leave i j c (leaves hi l) = (record { passive = q .passive; empty = q .empty }, leave-takes t (facts t s) o i hi l)
 
   -- while something is left, an acknowledgement or a leaving is allowed
@@ -208,7 +208,7 @@ module _ (t : State) (s : Sound t) (q : Quiet t) where
   unfolding stepsLeft
   quiet-next h =
       elim (decLt 0 (acksTotal t)) [
-        | yes p ↦ let a = next-ack t (facts t s) q p in (Ack, a .0, acknowledging, acks (a .1) (a .2))
+        | yes p ↦ let a = next-ack t (facts t s) q p in (Ack, a .0, acknowledging, acknowledges (a .1) (a .2))
         | no z ↦ let a = next-leaver t (facts t s) q (omega arith) (omega arith) in (Leave, a .0, leaving, leaves (a .1) (a .2))
       ]
 

@@ -1,6 +1,6 @@
 -- An accepted start is open. A refused start's blank is not sound. Assumes nothing.
 use Prim.Native.Nat.{_*_, _+_, _<_, _≤_, suc, zero, ℕ}
-use borrow.Author.Tests.{eq-eqb, le-leb, leb-false, leb-true, lt-leb, lt-ltb, ltb-true, not-false}
+use borrow.Author.Tests.{eq-eqb, le-leb, le-ltb, leb-false, leb-true, lt-leb, lt-ltb, ltb-true, not-false}
 use lib.ListN.{getD, length-replicate, length-set, replicate, set}
 use lib.Seq.{getD-set-other, getD-set-same}
 use mathlib.Core.Bool.{false, not, true}
@@ -13,13 +13,14 @@ use Rattle.laws.proofs.Sums.{count-zero, sum-zero}
 use Rattle.laws.proofs.Tests.{both, both-true, false-true, split}
 use Rattle.refusal.proofs.Table.{accepts, none-holds}
 use Rattle.refusal.specs.Table.{NoneHolds, also, none}
-use Rattle.refusal.specs.declared.Verdict.the-variants.{Accepted}
+use Rattle.refusal.specs.declared.Refusal.the-variants.{NodeCount, UnknownNode}
+use Rattle.refusal.specs.declared.Verdict.the-variants.{Accepted, Refused}
 use Rattle.tree_rules.proofs.Chains.{climb-any}
 use Rattle.tree_rules.proofs.Facts.{Facts, sound}
 use Rattle.tree_rules.proofs.Soundness.{sound-true}
 use Rattle.tree_rules.proofs.Sums.{no-child}
 use Rattle.tree_rules.specs.Soundness.{Open, soundTest}
-use Rattle.tree_rules.specs.Start.{blank, firstState, startTable, startVerdict}
+use Rattle.tree_rules.specs.Start.{blank, firstState, startOf, startTable, startVerdict}
 use Rattle.tree_rules.specs.State.{children, climb, isChild, messagesFrom}
 
 -- a column of equal values has that value at each place, also where the default is read
@@ -125,3 +126,22 @@ blank-unsound =
       | inl e ↦ absurd (omega (arith, sound-true blank e .some-node))
       | inr e ↦ e
     ]
+
+-- ---- what the code of a start has to show
+
+module _ (n root : ℕ) where
+  pub no-nodes : n ≡ 0 → startOf n root ≡ record { verdict = Refused NodeCount; state = blank }
+  unfolding startOf startVerdict
+  no-nodes e = rw (le-ltb 0 n (omega arith))
+
+  pub many-nodes : 16 < n → startOf n root ≡ record { verdict = Refused NodeCount; state = blank }
+  unfolding startOf startVerdict
+  many-nodes h = rw (lt-ltb 0 n (omega arith), lt-leb n 16 h)
+
+  pub no-root : 0 < n → n ≤ 16 → n ≤ root → startOf n root ≡ record { verdict = Refused UnknownNode; state = blank }
+  unfolding startOf startVerdict
+  no-root lo hi h = rw (lt-ltb 0 n lo, le-leb n 16 hi, le-leb n root h)
+
+  pub good-root : 0 < n → n ≤ 16 → root < n → startOf n root ≡ record { verdict = Accepted; state = firstState n root }
+  unfolding startOf startVerdict
+  good-root lo hi h = rw (lt-ltb 0 n lo, le-leb n 16 hi, lt-leb n root h)

@@ -17,7 +17,7 @@ use Rattle.tree_rules.specs.Soundness.{Open, Sound, soundTest}
 use Rattle.tree_rules.specs.Start.{blank, firstState, startOf, startTable, startVerdict}
 use Rattle.tree_rules.specs.State.{State}
 use Rattle.tree_rules.specs.Termination.{Quiet}
-use Rattle.tree_rules.specs.Theorems.{AnnouncedQuiet, SoundKept, SoundTested, StartAnswered, StepAnswered}
+use Rattle.tree_rules.specs.Theorems.{AnnouncedQuiet, FieldsUnread, SoundKept, SoundTested, StartAnswered, StepAnswered}
 
 pub sound-tested : SoundTested
 sound-tested = record { holds = sound-true; tested = true-sound }
@@ -72,3 +72,13 @@ announced-quiet =
       where
         go : Rule t i j Announce → Quiet t
         go (announces c) = conclusive-quiet t (a .sound) c
+
+pub fields-unread : FieldsUnread
+unfolding answerOf verdictOf
+fields-unread =
+    record {
+      idle = λ t i j j′. refl;
+      ack = λ t i j j′. refl;
+      leave = λ t i j j′. refl;
+      announce = λ t i i′ j j′. refl;
+    }

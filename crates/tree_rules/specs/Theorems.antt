@@ -7,7 +7,7 @@ use Rattle.refusal.specs.Table.{FirstIs, NoneHolds, Row}
 use Rattle.refusal.specs.declared.Refusal.{Refusal}
 use Rattle.refusal.specs.declared.Verdict.the-variants.{Accepted, Refused}
 use Rattle.tree_rules.specs.Answers.{answerOf, stepTable, verdictOf}
-use Rattle.tree_rules.specs.Rules.{Announce, Kind, effect}
+use Rattle.tree_rules.specs.Rules.{Ack, Announce, Idle, Kind, Leave, effect}
 use Rattle.tree_rules.specs.Soundness.{Open, Sound, soundTest}
 use Rattle.tree_rules.specs.Start.{firstState, startOf, startTable, startVerdict}
 use Rattle.tree_rules.specs.State.{State}
@@ -49,3 +49,10 @@ pub record AnnouncedQuiet : Type 0 where
   pub quiet : (t : State) (i j : ℕ) → verdictOf t Announce i j ≡ Accepted → Quiet t
   pub closes : (t : State) (i j : ℕ) → verdictOf t Announce i j ≡ Accepted → answerOf t Announce i j .state .closed ≡ true
   pub last : (t : State) → t .closed ≡ true → (k : Kind) (i j : ℕ) → verdictOf t k i j ≡ Accepted → ⊥
+
+-- Fields that a kind does not use are not read.
+pub record FieldsUnread : Type 0 where
+  pub idle : (t : State) (i j j′ : ℕ) → answerOf t Idle i j ≡ answerOf t Idle i j′
+  pub ack : (t : State) (i j j′ : ℕ) → answerOf t Ack i j ≡ answerOf t Ack i j′
+  pub leave : (t : State) (i j j′ : ℕ) → answerOf t Leave i j ≡ answerOf t Leave i j′
+  pub announce : (t : State) (i i′ j j′ : ℕ) → answerOf t Announce i j ≡ answerOf t Announce i′ j′

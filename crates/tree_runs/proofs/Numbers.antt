@@ -5,7 +5,7 @@ use mathlib.Core.Bool.{Bool, false, true}
 use mathlib.Core.Path.{_∙_, _≡_, ap, refl, subst, sym}
 use native.Mathlib.Decide.{ℕ-discrete}
 use Rattle.laws.proofs.Tests.{false-true}
-use Rattle.tree_rules.proofs.Accepted.{Rule, acks, announces, idles, leaves, sends, takes}
+use Rattle.tree_rules.proofs.Accepted.{Rule, acknowledges, announces, idles, leaves, sends, takes}
 use Rattle.tree_rules.specs.Answers.{unknown}
 use Rattle.tree_rules.specs.Rules.{Ack, Announce, Idle, Kind, Leave, Send, Take, Unknown, kindOf}
 use Rattle.tree_rules.specs.State.{State}
@@ -47,7 +47,7 @@ known : {t : State} {i j : ℕ} (k : Kind) → Rule t i j k → unknown k ≡ fa
 known Send (sends hi hj ne act lim) = refl
 known Take (takes hi hj m) = refl
 known Idle (idles hi act) = refl
-known Ack (acks hi a) = refl
+known Ack (acknowledges hi a) = refl
 known Leave (leaves hi l) = refl
 known Announce (announces c) = refl
 

@@ -13,7 +13,7 @@ use Rattle.laws.proofs.Indicators.{ind, ind-eq, ind-ne, lowered-at, raised-at, 
 use Rattle.laws.proofs.Tests.{not-eq}
 use Rattle.laws.specs.Sums.{sumTo}
 use Rattle.runs.specs.Runs.{Request}
-use Rattle.tree_rules.proofs.Accepted.{Rule, acks, idles, leaves, sends, takes}
+use Rattle.tree_rules.proofs.Accepted.{Rule, acknowledges, idles, leaves, sends, takes}
 use Rattle.tree_rules.proofs.Engages.{engager-16}
 use Rattle.tree_rules.proofs.Facts.{Facts, false-engaged, in-acks, in-engager, in-range, in-transit, take-cases, true-engaged}
 use Rattle.tree_rules.specs.Rules.{Ack, Announce, Idle, Kind, Leave, Send, Take, Unknown, effect, engageOf, kindOf, leaveOf}
@@ -123,7 +123,7 @@ module _ (t : State) (f : Facts t) where
       (λ e. rw (false-engaged t a e))
       (λ e. rw (true-engaged t a e) (omega (arith, sum-raised 16 (t .acks) b (in-acks t f b b16) b16)))
   acks-step o k a b three r = refl
-  acks-step o k a b four (acks ha has) =
+  acks-step o k a b four (acknowledges ha has) =
       omega (arith, sum-lowered 16 (t .acks) a (in-acks t f a (in-range t f a ha)) (in-range t f a ha) has)
   acks-step o k a b five (leaves ha l) =
       let e16 = engager-16 t f o a ha l in
