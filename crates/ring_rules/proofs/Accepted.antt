@@ -30,7 +30,7 @@ pub record Conclusion (r : State) : Type 0 where
 pub data Again (r : State) : Type 0 where
   token-black : r .black ≡ true → Again r
   zero-black : blackAt r 0 ≡ true → Again r
-  sum-positive : isPositive (r .q +ℤ counter r 0) ≡ true → Again r
+  sum-above : isPositive (r .q +ℤ counter r 0) ≡ true → Again r
 
 pub data Rule (r : State) (i j : ℕ) : Kind → Type 0 where
   sends : i < r .n → j < r .n → (i ≡ j → ⊥) → activeAt r i ≡ true → total (r .sent) (r .n) < sendLimit → Rule r i j Send
@@ -67,12 +67,12 @@ true-conclusive r c =
     (both-true (not-eq (c .white)) (both-true (c .zero) (both-true (not-eq (c .passive)) (eq-eqb _ _ (c .empty))))))
 
 pub again-true : (r : State) → (r .black || (blackAt r 0 || isPositive (r .q +ℤ counter r 0))) ≡ true → Again r
-again-true r e = ⊎-elim token-black (λ h. ⊎-elim zero-black sum-positive (one-of _ _ h)) (one-of _ _ e)
+again-true r e = ⊎-elim token-black (λ h. ⊎-elim zero-black sum-above (one-of _ _ h)) (one-of _ _ e)
 
 true-again : (r : State) → Again r → (r .black || (blackAt r 0 || isPositive (r .q +ℤ counter r 0))) ≡ true
 true-again r (token-black e) = left-true _ e
 true-again r (zero-black e) = right-true (r .black) (left-true _ e)
-true-again r (sum-positive e) = right-true (r .black) (right-true (blackAt r 0) e)
+true-again r (sum-above e) = right-true (r .black) (right-true (blackAt r 0) e)
 
 pub true-probe : (r : State) → r .pos ≡ 0 → Again r → mayProbe r ≡ true
 unfolding mayProbe

@@ -1,16 +1,17 @@
 -- The driver: what its definition computes is a course of accepted token moves. Assumes nothing.
 use Prim.Native.Nat.{_*_, _+_, _-_, _<_, _≤_, suc, zero, ℕ}
-use borrow.Author.Tests.{eq-eqb, le-ltb, ne-eqb, not-true}
+use borrow.Author.Tests.{eq-eqb, le-ltb, lt-ltb, ne-eqb, not-true}
 use lib.Dec.{eqb, ltb}
 use mathlib.Core.Bool.{Bool, cond, false, not, true}
+use mathlib.Core.List.{[], _∷_}
 use mathlib.Core.Logic.{⊎-elim}
 use mathlib.Core.Path.{_∙_, _≡_, ap, refl, subst, sym}
 use native.Mathlib.Decide.{decLt}
 use native.Mathlib.Omega.{arith}
 use Rattle.laws.proofs.Tests.{both, false-true, split}
-use Rattle.refusal.proofs.Table.{accepts}
-use Rattle.refusal.specs.Table.{also, firstOf, none, settle}
+use Rattle.refusal.specs.Table.{_⟶_, firstOf, settle}
 use Rattle.refusal.specs.declared.Refusal.{Refusal}
+use Rattle.refusal.specs.declared.Refusal.the-variants.{Closed, MoveLimit, Unsound}
 use Rattle.refusal.specs.declared.Verdict.{Verdict}
 use Rattle.refusal.specs.declared.Verdict.the-variants.{Accepted, Refused}
 use Rattle.ring_rules.proofs.Accepted.{Rule, accepted, again-true, allowed, conclusive-true, passes, probes, true-conclusive, true-pass, true-probe}
@@ -20,7 +21,7 @@ use Rattle.ring_rules.proofs.Soundness.{true-sound}
 use Rattle.ring_rules.specs.Answers.{answerOf, verdictOf}
 use Rattle.ring_rules.specs.Driver.{Driven, driveBy, driveFrom, driveOf, driveTable, mayMove, moveKind, moveLimit, moveOf, moved, stopAt}
 use Rattle.ring_rules.specs.Rules.{Announce, Kind, Pass, Probe, conclusive, effect, guard, mayPass, mayProbe}
-use Rattle.ring_rules.specs.Soundness.{Open, Sound}
+use Rattle.ring_rules.specs.Soundness.{Open, Sound, soundTest}
 use Rattle.ring_rules.specs.State.{State}
 use Rattle.ring_rules.specs.Termination.{Quiet, movesLeft}
 use Rattle.ring_rules.specs.Theorems.{Drives, Ended, TokenMove, concluded, passing, probing, spends, waits}
@@ -164,15 +165,29 @@ course (suc k) d r o = go (λ e. course k (suc d) (moveOf r) (move-open r o e)) 
 
 -- ---- the driver's answer
 
-pub drive-accepted : (r : State) (m : ℕ) → Open r → m ≤ moveLimit → driveOf r m ≡ driveFrom m 0 r
-unfolding driveOf
-drive-accepted r m o h =
-    ap (λ (v : Verdict). driveBy v m r)
-    (accepts (driveTable r m) (also (ap not (true-sound r (o .sound))) (also (o .running) (also (le-ltb moveLimit m h) none))))
-
 pub drive-refused : (r : State) (m : ℕ) (e : Refusal) → firstOf (driveTable r m) ≡ Refused e → driveOf r m ≡ stopAt (Stopped e) 0 r
 unfolding driveOf
 drive-refused r m e p = ap (λ (v : Verdict). driveBy v m r) p
+
+-- the verdict by its three tests, each known as far as the table is read
+by-tests :
+    (r : State) (m : ℕ) (s c l : Bool) → soundTest r ≡ s → r .closed ≡ c → ltb moveLimit m ≡ l
+    → driveOf r m ≡ driveBy (firstOf ((not s ⟶ Unsound) ∷ (c ⟶ Closed) ∷ (l ⟶ MoveLimit) ∷ [])) m r
+unfolding driveOf
+by-tests r m s c l e₁ e₂ e₃ = λ x. driveBy (firstOf ((not (e₁ x) ⟶ Unsound) ∷ (e₂ x ⟶ Closed) ∷ (e₃ x ⟶ MoveLimit) ∷ [])) m r
+
+module _ (r : State) (m : ℕ) where
+  pub drive-unsound : soundTest r ≡ false → driveOf r m ≡ stopAt (Stopped Unsound) 0 r
+  drive-unsound s = by-tests r m _ _ _ s refl refl
+
+  pub drive-closed : Sound r → r .closed ≡ true → driveOf r m ≡ stopAt (Stopped Closed) 0 r
+  drive-closed s c = by-tests r m _ _ _ (true-sound r s) c refl
+
+  pub drive-over : Open r → moveLimit < m → driveOf r m ≡ stopAt (Stopped MoveLimit) 0 r
+  drive-over o h = by-tests r m _ _ _ (true-sound r (o .sound)) (o .running) (lt-ltb moveLimit m h)
+
+  pub drive-accepted : Open r → m ≤ moveLimit → driveOf r m ≡ driveFrom m 0 r
+  drive-accepted o h = by-tests r m _ _ _ (true-sound r (o .sound)) (o .running) (le-ltb moveLimit m h)
 
 from-course : (r : State) (m : ℕ) (x : Driven) → Course m 0 r x → Drives r m x
 from-course r m x c =
@@ -190,7 +205,7 @@ drives r m o h = subst (Drives r m) (sym (drive-accepted r m o h)) (from-course 
 
 -- ---- a quiet ring
 
-never : (k : Kind) → TokenMove k → k ≡ Announce → ⊥
+pub never : (k : Kind) → TokenMove k → k ≡ Announce → ⊥
 never Probe probing e = let z : _≡_ {A = ℕ} 0 1 = cc in omega arith
 never Pass passing e = let z : _≡_ {A = ℕ} 0 1 = cc in omega arith
 

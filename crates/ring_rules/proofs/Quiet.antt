@@ -13,7 +13,7 @@ use Rattle.laws.proofs.Places.{all-at, all-from, total-at, total-none}
 use Rattle.laws.proofs.Tests.{both, both-true, false-true, neither, one-of, same-test, split}
 use Rattle.laws.specs.Places.{total}
 use Rattle.signed.proofs.Parts.{dn, sum-parts, up}
-use Rattle.ring_rules.proofs.Accepted.{Again, Conclusion, Rule, announces, idles, passes, probes, sends, sum-positive, takes, token-black, zero-black}
+use Rattle.ring_rules.proofs.Accepted.{Again, Conclusion, Rule, announces, idles, passes, probes, sends, sum-above, takes, token-black, zero-black}
 use Rattle.ring_rules.proofs.Soundness.{true-white, white-true}
 use Rattle.ring_rules.proofs.Sums.{Gathered, Level, above-of, above-zero-by, above-zero-of, gathered-of, level-by, level-of, level-zero-by, level-zero-of}
 use Rattle.ring_rules.specs.Rules.{Announce, Idle, Kind, Pass, Probe, Send, Take, effect, passOf, probeOf}
@@ -137,7 +137,7 @@ module _ (r : State) (s : Sound r) (quiet : Quiet r) where
       go (inr b) (inr w) (gathered f e) =
           never (record { token = b; white = here w; level = omega (arith, gathered-of r (s .holder) e, settled) })
       go (inr b) (inr w) (positive e) =
-          sum-positive (above-zero-by r (omega (arith, above-of r (suc (r .pos)) e, ap (total (r .sent)) one, ap (total (r .received)) one)))
+          sum-above (above-zero-by r (omega (arith, above-of r (suc (r .pos)) e, ap (total (r .sent)) one, ap (total (r .received)) one)))
       go (inr b) (inr w) (black-node i h e) = absurd (false-true (sym (here w i h) ∙ e))
       go (inr b) (inr w) (black-token e) = absurd (false-true (sym b ∙ e))
 
@@ -166,7 +166,7 @@ module _ (r : State) (s : Sound r) (quiet : Quiet r) where
   not-again : Conclusion r → Again r → ⊥
   not-again c (token-black e) = false-true (sym (c .token-white) ∙ e)
   not-again c (zero-black e) = false-true (sym (c .white) ∙ e)
-  not-again c (sum-positive e) = omega (arith, above-zero-of r e, level-zero-of r (c .zero))
+  not-again c (sum-above e) = omega (arith, above-zero-of r e, level-zero-of r (c .zero))
 
   -- the announce test holds exactly where no move is left
   none-left : (a b : Bool) (p n : ℕ) → 0 < n → cond a p (cond b (p + n) (p + 2 * n)) ≡ 0 → (a ≡ true) × (p ≡ 0)

@@ -1,11 +1,11 @@
 -- An accepted start: its columns are as the flags say, and it is open. A refused start's blank is not sound. Assumes nothing.
 use Prim.Native.Nat.{_/_, _<_, _≤_, suc, zero, ℕ}
-use borrow.Author.Tests.{eq-eqb, eqb-true, le-leb, le-ltb, leb-true, lt-ltb, ltb-true, not-false}
+use borrow.Author.Tests.{eq-eqb, eqb-true, le-leb, le-ltb, leb-true, lt-leb, lt-ltb, ltb-true, not-false}
 use lib.Dec.{leb, ltb}
 use lib.ListN.{getD, getD-replicate, length, length-replicate, length-set, set}
 use lib.Seq.{getD-set-other, getD-set-same}
 use mathlib.Core.Bool.{Bool, _&&_, false, not, true}
-use mathlib.Core.List.{List}
+use mathlib.Core.List.{List, [], _∷_}
 use mathlib.Core.Logic.{_⊎_, inl, inr}
 use mathlib.Core.Path.{_∙_, _≡_, ap, refl, sym}
 use native.Mathlib.Decide.{ℕ-discrete}
@@ -15,11 +15,12 @@ use Rattle.color.specs.Colors.{isBlack}
 use Rattle.laws.proofs.Places.{all-at, all-from, total-zeros}
 use Rattle.laws.proofs.Tests.{both, both-true, false-true, same-test, split}
 use Rattle.refusal.proofs.Table.{accepts, none-holds}
-use Rattle.refusal.specs.Table.{NoneHolds, also, none}
-use Rattle.refusal.specs.declared.Verdict.the-variants.{Accepted}
+use Rattle.refusal.specs.Table.{NoneHolds, _⟶_, also, firstOf, none, settle}
+use Rattle.refusal.specs.declared.Refusal.the-variants.{NodeCount, StartFlags}
+use Rattle.refusal.specs.declared.Verdict.the-variants.{Accepted, Refused}
 use Rattle.ring_rules.proofs.Soundness.{sound-true}
 use Rattle.ring_rules.specs.Soundness.{Open, black-token, soundTest}
-use Rattle.ring_rules.specs.Start.{activeFrom, blank, colorFrom, firstState, flagActive, flagBlack, flagsTest, paint, startTable, startVerdict}
+use Rattle.ring_rules.specs.Start.{activeFrom, blank, colorFrom, firstState, flagActive, flagBlack, flagsTest, paint, startOf, startTable, startVerdict}
 
 below-next : (i m : ℕ) → (m ≡ i → ⊥) → ltb i m ≡ ltb i (suc m)
 below-next i m ne =
@@ -158,3 +159,40 @@ blank-unsound = go (split (soundTest blank))
     go : (soundTest blank ≡ true) ⊎ (soundTest blank ≡ false) → soundTest blank ≡ false
     go (inl e) = absurd (omega (arith, sound-true blank e .some-node))
     go (inr e) = e
+
+-- ---- what the code of a start has to show
+
+by-tests :
+    (n : ℕ) (flags : List ℕ) (a b : Bool) → (ltb 0 n && leb n 96) ≡ a → flagsTest n flags ≡ b
+    → startOf n flags
+    ≡ record {
+      verdict = firstOf ((not a ⟶ NodeCount) ∷ (not b ⟶ StartFlags) ∷ []);
+      state = settle (firstOf ((not a ⟶ NodeCount) ∷ (not b ⟶ StartFlags) ∷ [])) (firstState n flags) blank;
+    }
+unfolding startOf startVerdict
+by-tests n flags a b e f =
+    λ x. record {
+      verdict = firstOf ((not (e x) ⟶ NodeCount) ∷ (not (f x) ⟶ StartFlags) ∷ []);
+      state = settle (firstOf ((not (e x) ⟶ NodeCount) ∷ (not (f x) ⟶ StartFlags) ∷ [])) (firstState n flags) blank;
+    }
+
+module _ (n : ℕ) (flags : List ℕ) where
+  pub no-nodes : n ≡ 0 → startOf n flags ≡ record { verdict = Refused NodeCount; state = blank }
+  no-nodes z = by-tests n flags false _ (rw (le-ltb 0 n (omega arith))) refl
+
+  pub many-nodes : 96 < n → startOf n flags ≡ record { verdict = Refused NodeCount; state = blank }
+  many-nodes h = by-tests n flags false _ (rw (lt-leb n 96 h, lt-ltb 0 n (omega arith))) refl
+
+  module _ (lo : 0 < n) (hi : n ≤ 96) where
+    range : (ltb 0 n && leb n 96) ≡ true
+    range = rw (lt-ltb 0 n lo, le-leb n 96 hi)
+
+    pub bad-flags : flagsTest n flags ≡ false → startOf n flags ≡ record { verdict = Refused StartFlags; state = blank }
+    bad-flags f = by-tests n flags true false range f
+
+    pub good-flags : flagsTest n flags ≡ true → startOf n flags ≡ record { verdict = Accepted; state = firstState n flags }
+    good-flags f = by-tests n flags true true range f
+
+  pub flags-length : flagsTest n flags ≡ true → length flags ≡ n
+  unfolding flagsTest
+  flags-length f = eqb-true _ _ (both _ _ f .0)

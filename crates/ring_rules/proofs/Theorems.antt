@@ -14,12 +14,12 @@ use Rattle.ring_rules.proofs.Quiet.{conclusive-quiet, moves-bound}
 use Rattle.ring_rules.proofs.Soundness.{sound-true, true-sound}
 use Rattle.ring_rules.proofs.Start.{blank-unsound, first-open, fits}
 use Rattle.ring_rules.specs.Answers.{answerOf, stepTable, verdictOf}
-use Rattle.ring_rules.specs.Rules.{Announce, Kind, effect}
+use Rattle.ring_rules.specs.Rules.{Announce, Kind, Send, effect, sendOf}
 use Rattle.ring_rules.specs.Soundness.{Open, Sound, soundTest}
 use Rattle.ring_rules.specs.Start.{blank, firstState, startOf, startTable, startVerdict}
 use Rattle.ring_rules.specs.State.{State}
 use Rattle.ring_rules.specs.Termination.{Quiet}
-use Rattle.ring_rules.specs.Theorems.{AnnouncedQuiet, DriverCounts, FieldsUnread, SoundKept, SoundTested, StartAnswered, StepAnswered}
+use Rattle.ring_rules.specs.Theorems.{AnnouncedQuiet, DriverCounts, FieldsUnread, SendKeepsColors, SoundKept, SoundTested, StartAnswered, StepAnswered}
 
 pub sound-tested : SoundTested
 sound-tested = record { holds = sound-true; tested = true-sound }
@@ -88,3 +88,11 @@ fields-unread =
       pass = λ r i j j′. refl;
       announce = λ r i i′ j j′. refl;
     }
+
+pub send-keeps-colors : SendKeepsColors
+unfolding answerOf
+send-keeps-colors = record { colors = λ r i j. go r i j (verdictOf r Send i j) }
+  where
+    go : (r : State) (i j : ℕ) (v : Verdict) → settle v (sendOf r i j) r .color ≡ r .color
+    go r i j Accepted = refl
+    go r i j (Refused e) = refl

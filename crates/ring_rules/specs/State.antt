@@ -1,12 +1,12 @@
 -- Document 01, "The ring": the state, and what it says of node i.
-use mathlib.Core.Bool.{Bool, false}
-use mathlib.Core.List.{List}
-use Prim.Native.Nat.{ℕ, suc, _-_}
+use Prim.Native.Nat.{_-_, suc, ℕ}
 use lib.IntN.{ℤ}
 use lib.ListN.{getD}
-use Rattle.laws.specs.Places.{total}
-use Rattle.signed.specs.Integers.{_⊖_}
+use mathlib.Core.Bool.{Bool, false}
+use mathlib.Core.List.{List}
 use Rattle.color.specs.Colors.{isBlack}
+use Rattle.laws.specs.Places.{countTo, total}
+use Rattle.signed.specs.Integers.{_⊖_}
 
 -- Columns have a place for each of 96 nodes, colors twelve bytes for them. `pos`, `q` and `black` are the token's: its position
 -- (document 01's holder), its signed sum, and whether it is black.
@@ -48,3 +48,10 @@ countersTo r m = total (r .sent) m ⊖ total (r .received) m
 abbrev pub countersAbove : State → ℤ
 countersAbove r =
     (total (r .sent) (r .n) - total (r .sent) (suc (r .pos))) ⊖ (total (r .received) (r .n) - total (r .received) (suc (r .pos)))
+
+-- the messages in transit, and the black nodes, over all 96 places
+unfoldable pub inTransit : State → ℕ
+inTransit r = total (r .pending) 96
+
+unfoldable pub blackNodes : State → ℕ
+blackNodes r = countTo 96 (isBlack (r .color))
