@@ -1,5 +1,3 @@
-pub mod Numbers
-pub mod Steps
-pub mod Counted
-pub mod Closes
-pub mod WholeRuns
+pub mod Trace
+pub mod Traced
+pub mod WholeRun

@@ -1,3 +1,2 @@
-pub mod Machine
 pub mod Counts
-pub mod WholeRuns
+pub mod WholeRun
