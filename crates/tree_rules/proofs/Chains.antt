@@ -42,7 +42,7 @@ module _ (l : List ℕ) (root : ℕ) (size : length l ≡ 16) (root-in : root < 
   none-above i h = List·getD-eq-default l 16 (omega arith)
 
   -- from outside the places no chain reaches the root
-  climb-outside : (m i : ℕ) → 16 ≤ i → climb l m i ≢ root
+  pub climb-outside : (m i : ℕ) → 16 ≤ i → climb l m i ≢ root
   unfolding climb
   climb-outside zero i h e = omega arith
   climb-outside (suc m) i h e = climb-outside m (getD l i 16) (omega (arith, none-above i h)) e

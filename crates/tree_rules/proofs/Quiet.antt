@@ -19,7 +19,7 @@ use Rattle.tree_rules.proofs.Facts.{Facts, engaged-true, facts, in-acks
 use Rattle.tree_rules.proofs.Sums.{child-of}
 use Rattle.tree_rules.specs.Rules.{Ack, Announce, Idle, Kind, Leave, Send, Take, ackOf, effect, leaveOf}
 use Rattle.tree_rules.specs.Soundness.{Resting, Sound}
-use Rattle.tree_rules.specs.State.{State, acksAt, activeAt, children, engaged, engagerAt, isChild, messagesFrom, transitAt, unackedAt}
+use Rattle.tree_rules.specs.State.{State, acksAt, activeAt, children, engagerAt, isChild, messagesFrom, transitAt, unackedAt}
 use Rattle.tree_rules.specs.Termination.{Closing, Quiet, acknowledging, acksTotal, engagedOthers, isOther, leaving, stepsLeft}
 
 -- ---- engaged nodes besides the root
@@ -41,7 +41,7 @@ module _ (t : State) (f : Facts t) where
   -- ---- an announcement
 
   -- where the root has nothing unacknowledged, no other node is engaged
-  alone : unackedAt t (t .root) ≡ 0 → (i : ℕ) → i < 16 → i ≢ t .root → engagerAt t i ≡ 16
+  pub alone : unackedAt t (t .root) ≡ 0 → (i : ℕ) → i < 16 → i ≢ t .root → engagerAt t i ≡ 16
   alone z i h ne =
       elim (ℕ-discrete (engagerAt t i) 16) [
         | yes p ↦ p
@@ -53,7 +53,7 @@ module _ (t : State) (f : Facts t) where
           under-nobody (t .engager) (t .root) (f .shape .engager-places) (root-16 t f) (f .root-own) (t .root) (root-16 t f)
           (omega (arith, f .balance (t .root) (root-16 t f)))
 
-  at-rest : Conclusion t → (i : ℕ) → i < 16 → Resting t i
+  pub at-rest : Conclusion t → (i : ℕ) → i < 16 → Resting t i
   at-rest c i h =
       elim (ℕ-discrete i (t .root)) [
         | yes p ↦ record { passive = ap (activeAt t) p ∙ c .passive; settled = ap (unackedAt t) p ∙ c .settled }

@@ -1,3 +1,10 @@
 pub mod Trace
 pub mod Traced
 pub mod WholeRun
+pub mod Change
+pub mod Steps
+pub mod Sums
+pub mod Starts
+pub mod Agreed
+pub mod Agreement
+pub mod StarredRuns
