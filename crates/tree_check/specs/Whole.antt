@@ -2,7 +2,6 @@
 use Prim.Native.Nat.{ℕ}
 use mathlib.Core.Bool.{Bool}
 use mathlib.Core.List.{List}
-use Rattle.tree_rules.proofs.Accepted.{sends}
 use Rattle.tree_rules.specs.State.{State}
 use Rattle.tree_check.specs.declared.Rest.{Rest}
 

@@ -1,7 +1,6 @@
 -- Chains of engagers: 16 links are enough, and what engaging and leaving do to them. Assumes nothing.
 use Prim.Native.Nat.{_+_, _-_, _<_, _≤_, suc, zero, ℕ}
 use borrow.Author.Tests.{eq-eqb, ne-eqb}
-use lib.Ieee.{size}
 use lib.ListN.{List·getD-eq-default, getD, length, set}
 use lib.Seq.{getD-set-other}
 use mathlib.Core.List.{List}

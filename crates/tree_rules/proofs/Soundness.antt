@@ -6,7 +6,6 @@ use mathlib.Core.Bool.{Bool, _&&_, _||_, false, not, true}
 use mathlib.Core.Logic.{_≢_, inl, inr}
 use mathlib.Core.Path.{_∙_, _≡_, ap, sym}
 use native.Mathlib.Omega.{arith}
-use package.mir.Syntax.{place}
 use Rattle.laws.proofs.Places.{all-at, all-from}
 use Rattle.laws.proofs.Tests.{both, both-true, false-true, left-true, not-eq, one-of, right-true, split}
 use Rattle.laws.specs.Places.{allTo}

@@ -3,10 +3,10 @@ use Prim.Native.Nat.{ℕ}
 use mathlib.Core.Path.{_∙_, _≡_, ap, refl, subst, sym}
 use Rattle.laws.proofs.Tests.{false-true}
 use Rattle.refusal.proofs.Table.{accepts, first-row, none-holds}
-use Rattle.refusal.specs.Table.{none, settle}
+use Rattle.refusal.specs.Table.{settle}
 use Rattle.refusal.specs.declared.Verdict.{Verdict}
 use Rattle.refusal.specs.declared.Verdict.the-variants.{Accepted, Refused}
-use Rattle.tree_rules.proofs.Accepted.{Allowed, Rule, accepted, allowed, announces}
+use Rattle.tree_rules.proofs.Accepted.{Allowed, Rule, allowed, announces}
 use Rattle.tree_rules.proofs.Keeps.{keeps}
 use Rattle.tree_rules.proofs.Quiet.{conclusive-quiet}
 use Rattle.tree_rules.proofs.Soundness.{sound-true, true-sound}

@@ -23,11 +23,11 @@ use Rattle.tree_runs.proofs.Change.{null-engaged}
 use Rattle.tree_runs.proofs.Steps.{action-rule, of-signal, rule-action, signal-of}
 use Rattle.tree_runs.proofs.Trace.{same-n, same-root}
 use Rattle.tree_runs.specs.Agreement.{AcceptsStep, Answered, SendAllowed, at-limit, matched, rootOf, shown, shownAfter, to-oneself}
-use Rattle.tree_runs.specs.DijkstraScholten.{Addr, SendDAT, SignalTermination, Step, Systems, deactivate, disengage, receive-ACK, receive-DAT, send}
+use Rattle.tree_runs.specs.DijkstraScholten.{Addr, SendDAT, SignalTermination, Step, Systems, deactivate, disengage, receive-ACK, receive-DAT, send-DAT}
 use Rattle.tree_runs.specs.View.{Action, is-ack, is-announce, is-idle, is-leave, is-send, is-take, systemsOf}
 
 -- a send is no other kind
-abbrev isSend : Kind → Bool
+abbrev pub isSend : Kind → Bool
 isSend Send = true
 isSend Take = false
 isSend Idle = false
@@ -36,7 +36,7 @@ isSend Leave = false
 isSend Announce = false
 isSend Unknown = false
 
-other-kind {ℓ} : {A : Type ℓ} {k : Kind} → Send ≡ k → isSend k ≡ false → A
+pub other-kind {ℓ} : {A : Type ℓ} {k : Kind} → Send ≡ k → isSend k ≡ false → A
 other-kind e z = absurd (false-true (sym z ∙ ap isSend (sym e)))
 
 pub nodes-kept : (t : State) (k i j : ℕ) → stepOf t k i j .state .n ≡ t .n
@@ -75,7 +75,7 @@ module _ (t : State) (ok : Sound t) where
   accepted-step k i j e = go (accepted-rule k i j e)
     where
       go : {u : Systems (t .n)} {c : Kind} {i j : ℕ} → Action a0 (shown t) u c i j → Step a0 (shown t) u ⊎ ((c ≡ Announce) × SignalTermination a0 (shown t) × (u ≡ shown t))
-      go (is-send i j x) = inl (send i j x)
+      go (is-send i j x) = inl (send-DAT i j x)
       go (is-take i k x) = inl (receive-DAT i k x)
       go (is-idle i x) = inl (deactivate i x)
       go (is-ack i x) = inl (receive-ACK i x)
@@ -131,7 +131,7 @@ module _ (t : State) (ok : Sound t) where
 
     open-answered : (u : Systems (t .n)) → Step a0 (shown t) u → Answered t ok u
     open-answered u (deactivate i x) = answered 3 (i .nr) 0 u (is-idle i x) (λ e. other-kind (sym e) refl)
-    open-answered u (send i j x) = send-answered u i j x
+    open-answered u (send-DAT i j x) = send-answered u i j x
     open-answered u (receive-DAT i k x) = answered 2 (i .nr) (k .nr) u (is-take i k x) (λ e. other-kind (sym e) refl)
     open-answered u (receive-ACK i x) = answered 4 (i .nr) 0 u (is-ack i x) (λ e. other-kind (sym e) refl)
     open-answered u (disengage i ne x) = answered 5 (i .nr) 0 u (is-leave i ne x) (λ e. other-kind (sym e) refl)
@@ -154,7 +154,7 @@ module _ (t : State) (ok : Sound t) where
 
       go : Step a0 (shown t) u → ⊥
       go (deactivate i x) = false-true (sym (rests i .passive) ∙ x .active)
-      go (send i j x) = false-true (sym (rests i .passive) ∙ x .active)
+      go (send-DAT i j x) = false-true (sym (rests i .passive) ∙ x .active)
       go (receive-DAT i k x) = omega (arith, x .in-transit, conclusive-quiet t ok c .empty (k .nr) (i .nr) (k .below) (i .below))
       go (receive-ACK i x) = omega (arith, x .in-transit, rests i .settled, ok .balance (i .nr) (i .below))
       go (disengage i ne x) =

@@ -4,6 +4,7 @@ use Rattle.tree_rules.proofs.Start.{fits}
 use Rattle.tree_rules.specs.Soundness.{Sound}
 use Rattle.tree_rules.specs.State.{State}
 use Rattle.tree_runs.proofs.Agreed.{accepted-rule, accepted-step, announce-signal, nodes-kept, refused-same, root-kept, rule-accepted, signal-last, step-answered}
+use Rattle.tree_runs.proofs.Behaviours.{reachable-run, run-reachable}
 use Rattle.tree_runs.proofs.Starts.{initial-start, start-accepted, start-initial}
 use Rattle.tree_runs.proofs.Sums.{balance-of, null-of-sound, safe-of, tree-of}
 use Rattle.tree_runs.specs.Agreement.{StartsAgree, StepsAgree, TreeAgrees}
@@ -35,4 +36,9 @@ steps-agree t ok =
     }
 
 pub tree-agrees : TreeAgrees
-tree-agrees = record { starts = starts-agree; steps = steps-agree }
+tree-agrees =
+    record {
+      starts = starts-agree;
+      steps = steps-agree;
+      runs = λ N a0. record { run-is-reachable = run-reachable a0; reachable-is-run = λ small u m b h. reachable-run a0 small b h };
+    }

@@ -6,5 +6,6 @@ pub mod Steps
 pub mod Sums
 pub mod Starts
 pub mod Agreed
+pub mod Behaviours
 pub mod Agreement
 pub mod StarredRuns

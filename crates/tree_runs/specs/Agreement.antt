@@ -1,18 +1,21 @@
 -- THE AGREEMENT of the tree with document 003, in both directions. Only statements are here; proofs/Agreement.antt proves them.
 -- `systemsOf N t` (View) is the tree t as document 003 sees it, and `Action` (View) is the table of which request stands for which rule.
 -- A request is its kind, 1 to 6, and the node numbers i and j.
-use Prim.Native.Nat.{_<_, _≤_, ℕ}
+use Prim.Native.Nat.{_+_, _<_, _≤_, ℕ}
 use mathlib.Core.Bool.{false}
+use mathlib.Core.List.{List}
 use mathlib.Core.Logic.{_↔_, _≢_, _⊎_}
 use mathlib.Core.Path.{_≡_}
 use Rattle.refusal.specs.declared.Refusal.the-variants.{SelfMessage, SendLimit}
 use Rattle.refusal.specs.declared.Verdict.the-variants.{Accepted, Refused}
+use Rattle.runs.specs.Runs.{Request, acceptedOf, runOf}
 use Rattle.tree_rules.specs.Answers.{stepOf}
 use Rattle.tree_rules.specs.Rules.{Announce, Send, kindOf}
 use Rattle.tree_rules.specs.Soundness.{Sound, sendLimit}
 use Rattle.tree_rules.specs.Start.{startOf, startVerdict}
 use Rattle.tree_rules.specs.State.{State}
-use Rattle.tree_runs.specs.DijkstraScholten.{A1, Addr, B1, B2, B3, Initial, SendDAT, SignalTermination, Step, Systems}
+use Rattle.tree_runs.specs.Counts.{tree}
+use Rattle.tree_runs.specs.DijkstraScholten.{A1, Addr, B1, B2, B3, Initial, SendDAT, SignalTermination, Step, Systems, deactivate, disengage, receive-ACK, receive-DAT, send-DAT}
 use Rattle.tree_runs.specs.View.{Action, systemsOf}
 
 -- ---- the starts
@@ -76,6 +79,45 @@ pub record StepsAgree (t : State) (ok : Sound t) : Type 0 where
   pub null-invariant : B3 (rootOf t ok) (shown t)
   pub safety : A1 (rootOf t ok) (shown t)
 
+-- ---- whole runs
+
+-- 1 for a message sent, else 0
+abbrev pub sendsIn : {N : ℕ} (a0 : Addr N) {s t : Systems N} → Step a0 s t → ℕ
+sendsIn a0 (deactivate j x) = 0
+sendsIn a0 (send-DAT j k x) = 1
+sendsIn a0 (receive-DAT j k x) = 0
+sendsIn a0 (receive-ACK j x) = 0
+sendsIn a0 (disengage j ne x) = 0
+
+-- the step is no message to oneself
+abbrev pub ToAnother : {N : ℕ} (a0 : Addr N) {s t : Systems N} → Step a0 s t → Type 0
+ToAnother a0 (deactivate j x) = Unit
+ToAnother a0 (send-DAT j k x) = j .nr ≢ k .nr
+ToAnother a0 (receive-DAT j k x) = Unit
+ToAnother a0 (receive-ACK j x) = Unit
+ToAnother a0 (disengage j ne x) = Unit
+
+-- systems that the rules reach from the initial ones, a message to oneself apart, with the number of messages sent on the way
+pub data Reachable {N : ℕ} (a0 : Addr N) : Systems N → ℕ → Type 0 where
+  initial : {s : Systems N} → Initial a0 s → Reachable a0 s 0
+  later : {s t : Systems N} {m : ℕ} → Reachable a0 s m → (x : Step a0 s t) → ToAnother a0 x → Reachable a0 t (m + sendsIn a0 x)
+
+-- a run from the start, every request of it accepted and none an announcement, that ends where it shows u, with m sends
+pub record RunTo {N : ℕ} (a0 : Addr N) (u : Systems N) (m : ℕ) : Type 0 where
+  pub requests : List Request
+  pub accepted : acceptedOf tree (startOf N (a0 .nr) .state) requests ≡ requests
+  pub running : runOf tree (startOf N (a0 .nr) .state) requests .closed ≡ false
+  pub count : runOf tree (startOf N (a0 .nr) .state) requests .sends ≡ m
+  pub there : systemsOf N (runOf tree (startOf N (a0 .nr) .state) requests) ≡ u
+
+pub record RunsAgree {N : ℕ} (a0 : Addr N) : Type 0 where
+  -- whatever the requests, accepted or refused, of a run from a start
+  pub run-is-reachable :
+      N ≤ 16 → (xs : List Request)
+      → Reachable a0 (systemsOf N (runOf tree (startOf N (a0 .nr) .state) xs)) (runOf tree (startOf N (a0 .nr) .state) xs .sends)
+  pub reachable-is-run : N ≤ 16 → (u : Systems N) (m : ℕ) → Reachable a0 u m → m ≤ sendLimit → RunTo a0 u m
+
 pub record TreeAgrees : Type 0 where
   pub starts : (N : ℕ) → StartsAgree N
   pub steps : (t : State) (ok : Sound t) → StepsAgree t ok
+  pub runs : (N : ℕ) (a0 : Addr N) → RunsAgree a0

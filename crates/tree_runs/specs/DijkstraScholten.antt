@@ -132,7 +132,7 @@ module _ {N : ℕ} (a0 : Addr N) where
   -- a rule of some system
   pub data Step (s t : Systems N) : Type 0 where
     deactivate : (j : Addr N) → Deactivate j s t → Step s t
-    send : (j k : Addr N) → SendDAT j k s t → Step s t
+    send-DAT : (j k : Addr N) → SendDAT j k s t → Step s t
     receive-DAT : (j k : Addr N) → ReceiveDAT j k s t → Step s t
     receive-ACK : (j : Addr N) → ReceiveACK j s t → Step s t
     disengage : (j : Addr N) → j .nr ≢ a0 .nr → Disengage j s t → Step s t

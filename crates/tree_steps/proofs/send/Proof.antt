@@ -6,7 +6,6 @@ use native.Mathlib.Omega.{arith}
 use Rattle.laws.proofs.Tests.{left-true, right-true}
 use Rattle.tree_rules.proofs.Answers.{accepted-answer, limit-answer, node-answer, rule-answer, self-answer}
 use Rattle.tree_rules.proofs.Bounds.{transit-small, unacked-small}
-use Rattle.tree_rules.proofs.Start.{fits}
 use Rattle.tree_rules.specs.Rules.{Send}
 use Rattle.tree_steps.proofs.send.Statement.{statement}
 use Rattle.tree_steps.proofs.send.Tie as tie
