@@ -1,0 +1,222 @@
+// The soundness check of a tree state over lent columns: what is large is lent, the rest goes by value.
+ghost use mathlib.Core.Path.{_≡_};
+ghost use mathlib.Core.Bool.{cond};
+ghost use Prim.Native.Nat.{_+_, _*_, _≤_, _<_, _^_};
+ghost use lib.ListN.{length, getD};
+ghost use Rattle.laws.specs.Places.{allTo};
+ghost use Rattle.laws.specs.Sums.{sumTo};
+ghost use Rattle.tree_rules.specs.State.{messagesFrom, children, climb};
+ghost use Rattle.tree_rules.specs.Rules.{conclusive};
+ghost use Rattle.tree_rules.specs.Soundness.{Shape, pairTest, placeTest, soundTest};
+ghost use Rattle.tree_check.specs.Whole.{whole};
+
+// What of a tree is not a column.
+pub struct Rest {
+    pub n: usize,
+    pub root: usize,
+    pub sends: u32,
+    pub closed: bool,
+}
+
+// A place of a column, as a wider number.
+fn wide(x: u32) -> u64
+    ensures { λ r. ⌜ (r ≡ x) × (r < 2 ^ 32) ⌝ }
+{
+    x as u64
+}
+
+// A node number of a column.
+fn node(x: u8) -> usize
+    ensures { λ r. ⌜ (r ≡ x) × (r < 2 ^ 8) ⌝ }
+{
+    x as usize
+}
+
+// The sum of a column.
+pub fn sum_of(a: &[u32; 16]) -> u64
+    ensures { λ r. ⌜ (r ≡ sumTo 16 (λ i. getD (now (a .entry)) i 0)) × (r ≤ 16 * 2 ^ 32) ⌝ }
+{
+    let mut sum: u64 = 0;
+    let mut i = 0;
+    while i < 16 {
+        sum += wide(a[i]);
+        i += 1;
+    }
+    sum
+}
+
+// The messages in transit from node i.
+fn messages_from(transit: &[u32; 256], i: usize) -> u64
+    requires { ⌜ i < 16 ⌝ }
+    ensures { λ r. ⌜ (r ≡ messagesFrom (now (transit .entry)) i) × (r ≤ 16 * 2 ^ 32) ⌝ }
+{
+    let mut sum: u64 = 0;
+    let mut k = 0;
+    while k < 16 {
+        sum += wide(transit[i * 16 + k]);
+        k += 1;
+    }
+    sum
+}
+
+// The engager at a place, 16 where there is none or no place.
+pub fn engager_of(engager: &[u8; 16], i: usize) -> usize
+    requires { ⌜ length (now engager) ≡ 16 ⌝ }
+    ensures { λ r. ⌜ (r ≡ getD (now (engager .entry)) i 16) × (r < 2 ^ 8) ⌝ }
+{
+    if i < 16 { node(engager[i]) } else { 16 }
+}
+
+// 1 for true, 0 for false.
+fn one(b: bool) -> u64
+    ensures { λ r. ⌜ (r ≡ cond b 1 0) × (r ≤ 1) ⌝ }
+{
+    if b { 1 } else { 0 }
+}
+
+// How many nodes have the engager j, the root not counted.
+fn children_of(root: usize, engager: &[u8; 16], j: usize) -> u64
+    requires { ⌜ length (now engager) ≡ 16 ⌝ }
+    ensures { λ r. ⌜ (r ≡ children root (now (engager .entry)) j) × (r ≤ 16) ⌝ }
+{
+    let mut sum: u64 = 0;
+    let mut i = 0;
+    while i < 16 {
+        let e = engager_of(engager, i);
+        sum += one((i != root) & (e == j));
+        i += 1;
+    }
+    sum
+}
+
+// Where 16 links of engagers lead from node i.
+fn chain_end(engager: &[u8; 16], i: usize) -> usize
+    requires { ⌜ length (now engager) ≡ 16 ⌝ }
+    ensures { λ r. ⌜ r ≡ climb (now (engager .entry)) 16 i ⌝ }
+{
+    let mut at = i;
+    let mut k: usize = 0;
+    while k < 16 {
+        at = engager_of(engager, at);
+        k += 1;
+    }
+    at
+}
+
+// Are the messages from place i only between two nodes?
+fn pairs_ok<'a>(
+    r: Rest,
+    active: &'a [bool; 16],
+    engager: &'a [u8; 16],
+    unacked: &'a [u32; 16],
+    transit: &'a [u32; 256],
+    acks: &'a [u32; 16],
+    i: usize,
+) -> bool
+    requires { ⌜ i < 16 ⌝ }
+    ensures { λ b. ⌜ b ≡ allTo 16 (pairTest (whole r (now (active .entry)) (now (engager .entry)) (now (unacked .entry)) (now (transit .entry)) (now (acks .entry))) i) ⌝ }
+{
+    let n = r.n;
+    let mut ok = true;
+    let mut k = 0;
+    while k < 16 {
+        ok = ok & ((transit[i * 16 + k] == 0) | ((i < n) & ((k < n) & (i != k))));
+        k += 1;
+    }
+    ok
+}
+
+// Does place i pass the tests of a place?
+fn place_ok<'a>(
+    r: Rest,
+    active: &'a [bool; 16],
+    engager: &'a [u8; 16],
+    unacked: &'a [u32; 16],
+    transit: &'a [u32; 256],
+    acks: &'a [u32; 16],
+    i: usize,
+) -> bool
+    requires { ⌜ (i < 16) × Shape (whole r (now active) (now engager) (now unacked) (now transit) (now acks)) ⌝ }
+    ensures { λ b. ⌜ b ≡ placeTest (whole r (now (active .entry)) (now (engager .entry)) (now (unacked .entry)) (now (transit .entry)) (now (acks .entry))) i ⌝ }
+{
+    let e = engager_of(engager, i);
+    let end = chain_end(engager, i);
+    let from = messages_from(transit, i);
+    let under = children_of(r.root, engager, i);
+    let owed = from + wide(acks[i]) + under;
+    let balanced = wide(unacked[i]) == owed;
+    let rest = (e != 16) | (!active[i] & (unacked[i] == 0));
+    let pairs = pairs_ok(r, active, engager, unacked, transit, acks, i);
+    let nodes = !(e != 16) | ((i < r.n) & (e < r.n));
+    nodes & ((!(e != 16) | (end == r.root)) & (balanced & (rest & pairs)))
+}
+
+// Do all places pass?
+fn places_ok<'a>(
+    r: Rest,
+    active: &'a [bool; 16],
+    engager: &'a [u8; 16],
+    unacked: &'a [u32; 16],
+    transit: &'a [u32; 256],
+    acks: &'a [u32; 16],
+) -> bool
+    requires { ⌜ Shape (whole r (now active) (now engager) (now unacked) (now transit) (now acks)) ⌝ }
+    ensures { λ b. ⌜ b ≡ allTo 16 (placeTest (whole r (now (active .entry)) (now (engager .entry)) (now (unacked .entry)) (now (transit .entry)) (now (acks .entry)))) ⌝ }
+{
+    let mut ok = true;
+    let mut i = 0;
+    while i < 16 {
+        ok = ok & place_ok(r, active, engager, unacked, transit, acks, i);
+        i += 1;
+    }
+    ok
+}
+
+// The test of announce.
+pub fn is_conclusive<'a>(
+    r: Rest,
+    active: &'a [bool; 16],
+    engager: &'a [u8; 16],
+    unacked: &'a [u32; 16],
+    transit: &'a [u32; 256],
+    acks: &'a [u32; 16],
+) -> bool
+    requires { ⌜ r .root < 16 ⌝ }
+    ensures { λ b. ⌜ b ≡ conclusive (whole r (now (active .entry)) (now (engager .entry)) (now (unacked .entry)) (now (transit .entry)) (now (acks .entry))) ⌝ }
+{
+    let root = r.root;
+    !active[root] & (unacked[root] == 0)
+}
+
+// Is the state sound, however wild its numbers?
+pub fn is_sound<'a>(
+    r: Rest,
+    active: &'a [bool; 16],
+    engager: &'a [u8; 16],
+    unacked: &'a [u32; 16],
+    transit: &'a [u32; 256],
+    acks: &'a [u32; 16],
+) -> bool
+    requires { ⌜ Shape (whole r (now active) (now engager) (now unacked) (now transit) (now acks)) ⌝ }
+    ensures { λ b. ⌜ b ≡ soundTest (whole r (now (active .entry)) (now (engager .entry)) (now (unacked .entry)) (now (transit .entry)) (now (acks .entry))) ⌝ }
+{
+    if 16 < r.n {
+        return false;
+    }
+    if r.n <= r.root {
+        return false;
+    }
+    if engager_of(engager, r.root) != r.root {
+        return false;
+    }
+    if !places_ok(r, active, engager, unacked, transit, acks) {
+        return false;
+    }
+    if !((sum_of(unacked) <= wide(r.sends)) & (r.sends <= 1000000)) {
+        return false;
+    }
+    if r.closed {
+        return is_conclusive(r, active, engager, unacked, transit, acks);
+    }
+    true
+}

@@ -1,0 +1,84 @@
+-- The statements of specs/Theorems.antt, proved. Assumes nothing.
+use Prim.Native.Nat.{ℕ}
+use mathlib.Core.Path.{_∙_, _≡_, ap, refl, subst, sym}
+use Rattle.laws.proofs.Tests.{false-true}
+use Rattle.refusal.proofs.Table.{accepts, first-row, none-holds}
+use Rattle.refusal.specs.Table.{settle}
+use Rattle.refusal.specs.declared.Verdict.{Verdict}
+use Rattle.refusal.specs.declared.Verdict.the-variants.{Accepted, Refused}
+use Rattle.tree_rules.proofs.Accepted.{Allowed, Rule, allowed, announces}
+use Rattle.tree_rules.proofs.Keeps.{keeps}
+use Rattle.tree_rules.proofs.Quiet.{conclusive-quiet}
+use Rattle.tree_rules.proofs.Soundness.{sound-true, true-sound}
+use Rattle.tree_rules.proofs.Start.{blank-unsound, first-open, fits}
+use Rattle.tree_rules.specs.Answers.{answerOf, stepTable, verdictOf}
+use Rattle.tree_rules.specs.Rules.{Announce, Kind, effect}
+use Rattle.tree_rules.specs.Soundness.{Open, Sound, soundTest}
+use Rattle.tree_rules.specs.Start.{blank, firstState, startOf, startTable, startVerdict}
+use Rattle.tree_rules.specs.State.{State}
+use Rattle.tree_rules.specs.Termination.{Quiet}
+use Rattle.tree_rules.specs.Theorems.{AnnouncedQuiet, FieldsUnread, SoundKept, SoundTested, StartAnswered, StepAnswered}
+
+pub sound-tested : SoundTested
+sound-tested = record { holds = sound-true; tested = true-sound }
+
+pub step-answered : StepAnswered
+unfolding verdictOf answerOf
+step-answered =
+    record {
+      accepted = λ t k i j. (none-holds (stepTable t k i j), accepts (stepTable t k i j));
+      next = λ t k i j e. ap (λ (v : Verdict). settle v (effect t k i j) t) e;
+      refused = λ t k i j. first-row (stepTable t k i j);
+      same = λ t k i j e p. ap (λ (v : Verdict). settle v (effect t k i j) t) p;
+    }
+
+pub start-answered : StartAnswered
+unfolding startVerdict startOf
+start-answered =
+    record {
+      accepted = λ n root. (none-holds (startTable n root), accepts (startTable n root));
+      first = λ n root e. ap (λ (v : Verdict). settle v (firstState n root) blank) e;
+      refused = λ n root. first-row (startTable n root);
+      none = λ n root e p. ap (λ (v : Verdict). soundTest (settle v (firstState n root) blank)) p ∙ blank-unsound;
+    }
+
+step-sound : (t : State) (k : Kind) (i j : ℕ) → verdictOf t k i j ≡ Accepted → Sound (answerOf t k i j .state)
+step-sound t k i j e =
+    let a = allowed t k i j e in
+    subst Sound (sym (step-answered .next t k i j e)) (keeps t (a .sound) (a .running) k i j (a .by))
+
+pub sound-kept : SoundKept
+sound-kept =
+    record {
+      start = λ n root e. subst Open (sym (start-answered .first n root e)) (first-open n root (fits n root e));
+      step = step-sound;
+      any = λ t k i j s. go t k i j s (verdictOf t k i j) refl;
+    }
+  where
+    go : (t : State) (k : Kind) (i j : ℕ) → Sound t → (v : Verdict) → verdictOf t k i j ≡ v → Sound (answerOf t k i j .state)
+    go t k i j s Accepted e = step-sound t k i j e
+    go t k i j s (Refused x) e = subst Sound (sym (step-answered .same t k i j x e)) s
+
+pub announced-quiet : AnnouncedQuiet
+announced-quiet =
+    record {
+      quiet = λ t i j e. quiet t i j (allowed t Announce i j e);
+      closes = λ t i j e. ap (λ (s : State). s .closed) (step-answered .next t Announce i j e);
+      last = λ t c k i j e. false-true (sym (allowed t k i j e .running) ∙ c);
+    }
+  where
+    quiet : (t : State) (i j : ℕ) → Allowed t Announce i j → Quiet t
+    quiet t i j a = go (a .by)
+      where
+        go : Rule t i j Announce → Quiet t
+        go (announces c) = conclusive-quiet t (a .sound) c
+
+pub fields-unread : FieldsUnread
+unfolding answerOf verdictOf
+fields-unread =
+    record {
+      idle = λ t i j j′. refl;
+      ack = λ t i j j′. refl;
+      leave = λ t i j j′. refl;
+      announce = λ t i i′ j j′. refl;
+    }

@@ -1,0 +1,11 @@
+pub mod Trace
+pub mod Traced
+pub mod WholeRun
+pub mod Change
+pub mod Steps
+pub mod Sums
+pub mod Starts
+pub mod Agreed
+pub mod Behaviours
+pub mod Agreement
+pub mod StarredRuns

@@ -1,0 +1,6 @@
+pub mod Counts
+pub mod WholeRun
+pub mod DijkstraScholten
+pub mod View
+pub mod Agreement
+pub mod StarredRuns
