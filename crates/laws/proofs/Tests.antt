@@ -1,8 +1,9 @@
 -- What a passed or a failed test says. Assumes nothing.
-use mathlib.Core.Path.{_≡_, refl, sym, ap}
-use mathlib.Core.Logic.{_⊎_, inl, inr}
-use mathlib.Core.Bool.{Bool, true, false, not, cond, _&&_, _||_}
 use Prim.Native.Nat.{ℕ}
+use borrow.Author.Tests.{not-false, not-true}
+use mathlib.Core.Bool.{Bool, _&&_, _||_, cond, false, not, true}
+use mathlib.Core.Logic.{_⊎_, inl, inr}
+use mathlib.Core.Path.{_∙_, _≡_, ap, refl, sym}
 use native.Mathlib.Omega.{arith}
 
 pub false-true : false ≡ true → ⊥
@@ -43,3 +44,10 @@ pub same-test : (a b : Bool) → (a ≡ true → b ≡ true) → (b ≡ true →
 same-test true b f g = sym (f refl)
 same-test false true f g = g refl
 same-test false false f g = refl
+
+-- what a function told, where the code went on because of it
+pub told-false : {a b : Bool} → a ≡ b → not a ≡ true → b ≡ false
+told-false {a} e n = sym e ∙ not-true a n
+
+pub told-true : {a b : Bool} → a ≡ b → not a ≡ false → b ≡ true
+told-true {a} e n = sym e ∙ not-false a n

@@ -1,8 +1,8 @@
 -- Demand 3 for the ring. Assumes nothing.
 use Prim.Native.Nat.{_*_, _+_, _-_, _<_, _≤_, ℕ}
 use lib.ListN.{List·getD-eq-default, getD, getD-replicate, length, length-replicate, replicate}
-use mathlib.Core.Bool.{Bool, _||_, false}
-use mathlib.Core.List.{List, _∷_}
+use mathlib.Core.Bool.{Bool, _||_, false, true}
+use mathlib.Core.List.{List, [], _++_, _∷_}
 use mathlib.Core.Logic.{_↔_, _⊎_, inl, inr, ⊎-elim}
 use mathlib.Core.Path.{_∙_, _≡_, ap, refl, subst, sym}
 use native.Mathlib.Decide.{decLt}
@@ -21,7 +21,7 @@ use Rattle.ring_rules.specs.Start.{firstState, startVerdict}
 use Rattle.ring_rules.specs.State.{State, activeAt, pendingAt, receivedAt}
 use Rattle.ring_rules.specs.Termination.{Quiet, movesLeft}
 use Rattle.ring_rules.specs.Theorems.{TokenMove, passing, probing}
-use Rattle.runs.proofs.Runs.{Run, kept, run-of, stop, took}
+use Rattle.runs.proofs.Runs.{Run, accepted-append, kept, run-append, run-of, stop, took}
 use Rattle.runs.specs.Runs.{Accepts, Request, acceptedOf, runOf}
 use Rattle.ring_runs.proofs.Trace.{after, closed-none, may, run-active, run-closed, run-n, run-pending, run-received, run-sound, sound-after}
 use Rattle.ring_runs.specs.Counts.{AllMoves, QuietBy, Unannounced, activeBy, announcedIn, isAnnounce, kind, move-first, no-request, ring, sendsTo, takesBy, transitBy}
@@ -110,6 +110,14 @@ walked (took {s = s} {t = t} {x = x} {acc = acc} a c) o q e =
         }
     go ih (inr w) = absurd (false-true (sym (neither (isAnnounce (kind x)) (announcedIn acc) e .0) ∙ ap isAnnounce (w .0)))
 
+announced-append : (us vs : List Request) → announcedIn (us ++ vs) ≡ (announcedIn us || announcedIn vs)
+announced-append [] vs = refl
+announced-append (x ∷ us) vs = rw (announced-append us vs) (go (isAnnounce (kind x)))
+  where
+    go : (b : Bool) → (b || (announcedIn us || announcedIn vs)) ≡ ((b || announcedIn us) || announcedIn vs)
+    go true = refl
+    go false = refl
+
 -- ---- the point of a run
 
 module _ (r : State) (o : Open r) (xs : List Request) where
@@ -180,16 +188,31 @@ module _ (r : State) (o : Open r) (xs : List Request) where
         counted = counted oh (by-quiet q);
       }
 
-  pub point : Point r xs
-  point =
-      record {
-        activity = activity;
-        transit = transit;
-        enough = λ b. omega (arith, flow b);
-        quiet = announced-quiet;
-        last = λ e ys. closed-none (run-of ring here ys) (closed-here ∙ e);
-        countdown = countdown;
-      }
+-- the point after xs and ys is a point of the same run
+module _ (r : State) (o : Open r) (xs ys : List Request) where
+  apart : Unannounced r (xs ++ ys) → Unannounced r xs × Unannounced (runOf ring r xs) ys
+  apart e =
+      neither (announcedIn (acceptedOf ring r xs)) (announcedIn (acceptedOf ring (runOf ring r xs) ys))
+      (sym (ap announcedIn (accepted-append ring r xs ys) ∙ announced-append (acceptedOf ring r xs) (acceptedOf ring (runOf ring r xs) ys)) ∙ e)
+
+  still : QuietBy r xs → Unannounced r (xs ++ ys) → QuietBy r (xs ++ ys)
+  still q e =
+      let p = apart e in
+      let oh : Open (runOf ring r xs) = record { sound = sound-here r o xs; running = closed-here r o xs ∙ p .0 } in
+      let w = walked (run-of ring (runOf ring r xs) ys) oh (by-quiet r o xs q) (p .1) in
+      quiet-by r o (xs ++ ys) (subst Quiet (sym (run-append ring r xs ys)) (w .quiet-still))
+
+point : (r : State) → Open r → (xs : List Request) → Point r xs
+point r o xs =
+    record {
+      activity = activity r o xs;
+      transit = transit r o xs;
+      enough = λ b. omega (arith, flow r o xs b);
+      quiet = announced-quiet r o xs;
+      last = λ e ys. closed-none (run-of ring (runOf ring r xs) ys) (closed-here r o xs ∙ e);
+      still = λ q ys. still r o xs ys q;
+      countdown = countdown r o xs;
+    }
 
 -- ---- a run from a start
 

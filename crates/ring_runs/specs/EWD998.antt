@@ -112,7 +112,7 @@ module _ {N : ℕ} (NAssumption : 0 < N) where
     pub j-other : j .nr ≢ i .nr
     pub pending′ : t .pending ≡ s .pending EXCEPT j ≔ s .pending j + 1
     pub unchanged-active : t .active ≡ s .active
-    pub unchanged-color : t .color ≡ s .color
+    pub unchanged-color : t .color ≡ s .color  -- the sender is not blackened, as it is in EWD840
     pub unchanged-token : t .token ≡ s .token
 
   pub record RecvMsg (i : Node N) (s t : Vars N) : Type 0 where

@@ -1,7 +1,7 @@
 use Prim.Native.Nat.{_-_, _≤_}
-use borrow.Author.Tests.{not-false, not-true}
 use mathlib.Core.Path.{_∙_, _≡_, ap, subst, sym}
 use native.Mathlib.Omega.{arith}
+use Rattle.laws.proofs.Tests.{told-false, told-true}
 use Rattle.ring_check.proofs.Laws.{small-sum}
 use Rattle.ring_check.specs.Whole.{whole}
 use Rattle.ring_rules.proofs.Driver.{move-open}
@@ -30,13 +30,13 @@ may-move-requires : tie.Need-may-move-requires Inv-loop μ-loop
 may-move-requires c κs = c .before .before .before .before .loop .inv .0
 
 returns-2 : tie.Need-returns-2 Inv-loop μ-loop
-returns-2 c = ends-waiting _ _ _ (sym (c .before .before .before .before .is-conclusive .ensures) ∙ c .before .before .before .if1 .left) (sym (c .before .may-move .ensures) ∙ not-true _ (c .if2 .taken)) ∙ c .before .before .before .before .before .before .loop .inv .2
+returns-2 c = ends-waiting _ _ _ (sym (c .before .before .before .before .is-conclusive .ensures) ∙ c .before .before .before .if1 .left) (told-false (c .before .may-move .ensures) (c .if2 .taken)) ∙ c .before .before .before .before .before .before .loop .inv .2
 
 returns-3 : tie.Need-returns-3 Inv-loop μ-loop
-returns-3 c = ends-spent (c .before .before .before .before .before .before .before .before .args .limit) (c .before .before .before .before .before .before .before .loop .moves) _ (c .if3 .taken) (sym (c .before .before .before .before .before .is-conclusive .ensures) ∙ c .before .before .before .before .if1 .left) (sym (c .before .before .may-move .ensures) ∙ not-false _ (c .before .if2 .left)) ∙ c .before .before .before .before .before .before .before .loop .inv .2
+returns-3 c = ends-spent (c .before .before .before .before .before .before .before .before .args .limit) (c .before .before .before .before .before .before .before .loop .moves) _ (c .if3 .taken) (sym (c .before .before .before .before .before .is-conclusive .ensures) ∙ c .before .before .before .before .if1 .left) (told-true (c .before .before .may-move .ensures) (c .before .if2 .left)) ∙ c .before .before .before .before .before .before .before .loop .inv .2
 
 make-move-requires : tie.Need-make-move-requires Inv-loop μ-loop
-make-move-requires c κs = (c .before .before .before .before .before .before .before .before .loop .inv .0, sym (c .before .before .before .may-move .ensures) ∙ not-false _ (c .before .before .if2 .left))
+make-move-requires c κs = (c .before .before .before .before .before .before .before .before .loop .inv .0, told-true (c .before .before .before .may-move .ensures) (c .before .before .if2 .left))
 
 add-moves : tie.Need-add-moves Inv-loop μ-loop
 add-moves c = omega arith
@@ -45,7 +45,7 @@ loop-less : tie.Need-loop-less Inv-loop μ-loop
 loop-less c = omega arith
 
 loop-again : tie.Need-loop-again Inv-loop μ-loop
-loop-again c = (subst Open (sym (c .make-move .ensures)) (move-open _ (c .before .before .before .before .before .before .before .before .before .loop .inv .0) (sym (c .before .before .before .before .may-move .ensures) ∙ not-false _ (c .before .before .before .if2 .left))), omega arith, ap (driveFrom _ _) (c .make-move .ensures) ∙ (one-more (c .before .before .before .before .before .before .before .before .before .before .args .limit) (c .before .before .before .before .before .before .before .before .before .loop .moves) _ (omega arith) (sym (c .before .before .before .before .before .before .before .is-conclusive .ensures) ∙ c .before .before .before .before .before .before .if1 .left) (sym (c .before .before .before .before .may-move .ensures) ∙ not-false _ (c .before .before .before .if2 .left)) ∙ c .before .before .before .before .before .before .before .before .before .loop .inv .2))
+loop-again c = (subst Open (sym (c .make-move .ensures)) (move-open _ (c .before .before .before .before .before .before .before .before .before .loop .inv .0) (told-true (c .before .before .before .before .may-move .ensures) (c .before .before .before .if2 .left))), omega arith, ap (driveFrom _ _) (c .make-move .ensures) ∙ (one-more (c .before .before .before .before .before .before .before .before .before .before .args .limit) (c .before .before .before .before .before .before .before .before .before .loop .moves) _ (omega arith) (sym (c .before .before .before .before .before .before .before .is-conclusive .ensures) ∙ c .before .before .before .before .before .before .if1 .left) (told-true (c .before .before .before .before .may-move .ensures) (c .before .before .before .if2 .left)) ∙ c .before .before .before .before .before .before .before .before .before .loop .inv .2))
 
 pub drive-spec : {M : Type 1} → statement M
 drive-spec =

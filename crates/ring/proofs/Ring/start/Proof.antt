@@ -1,13 +1,12 @@
 use borrow.Author.Needs.{needs}
-use borrow.Author.Tests.{not-false, not-true}
 use lib.ListN.{length}
 use mathlib.Core.Path.{_∙_, _≡_, ap, ap₂, sym}
 use native.Mathlib.Omega.{arith}
+use Rattle.laws.proofs.Tests.{told-false, told-true}
 use Rattle.refusal.specs.declared.Verdict.the-variants.{Accepted}
 use Rattle.ring_rules.proofs.Start.{bad-flags, flags-length, good-flags, many-nodes, no-nodes}
 use Rattle.ring_rules.specs.Start.{firstState, opened}
 use Rattle.ring_rules.specs.State.{State}
-use Rattle.ring.specs.View.{state}
 use Rattle.ring.proofs.Ring.start.Statement.{statement}
 use Rattle.ring.proofs.Ring.start.Tie as tie
 
@@ -30,20 +29,20 @@ no-start-requires-3 : tie.Need-no-start-requires-3
 no-start-requires-3 c κs = search needs
 
 returns-3 : tie.Need-returns-3
-returns-3 c = c .no-start3 .ensures ∙ sym (bad-flags _ _ (omega arith) (c .before .before .before .if2 .left) (sym (c .before .before .flags-fit .ensures) ∙ not-true _ (c .before .if3 .taken)))
+returns-3 c = c .no-start3 .ensures ∙ sym (bad-flags _ _ (omega arith) (c .before .before .before .if2 .left) (told-false (c .before .before .flags-fit .ensures) (c .before .if3 .taken)))
 
 active-from-requires : tie.Need-active-from-requires
-active-from-requires c κs = let e : length (c .before .before .before .before .before .args .flags .now) ≡ c .before .before .before .before .before .args .n = flags-length _ _ (sym (c .before .flags-fit .ensures) ∙ not-false _ (c .if3 .left)) in (omega arith, c .before .before .if2 .left)
+active-from-requires c κs = let e : length (c .before .before .before .before .before .args .flags .now) ≡ c .before .before .before .before .before .args .n = flags-length _ _ (told-true (c .before .flags-fit .ensures) (c .if3 .left)) in (omega arith, c .before .before .if2 .left)
 
 color-from-requires : tie.Need-color-from-requires
-color-from-requires c κs = let e : length (c .before .before .before .before .before .before .args .flags .now) ≡ c .before .before .before .before .before .before .args .n = flags-length _ _ (sym (c .before .before .flags-fit .ensures) ∙ not-false _ (c .before .if3 .left)) in (omega arith, c .before .before .before .if2 .left)
+color-from-requires c κs = let e : length (c .before .before .before .before .before .before .args .flags .now) ≡ c .before .before .before .before .before .before .args .n = flags-length _ _ (told-true (c .before .before .flags-fit .ensures) (c .before .if3 .left)) in (omega arith, c .before .before .before .if2 .left)
 
 opening-requires : tie.Need-opening-requires
 opening-requires c κs = search needs
 
 returns-4 : tie.Need-returns-4
 unfolding firstState
-returns-4 c = ap (λ (s : State). record { verdict = Accepted; state = s }) (c .opening .ensures ∙ ap₂ (opened (c .before .before .before .before .before .before .before .before .args .n)) (c .before .before .active-from .ensures) (c .before .color-from .ensures)) ∙ sym (good-flags _ _ (omega arith) (c .before .before .before .before .before .if2 .left) (sym (c .before .before .before .before .flags-fit .ensures) ∙ not-false _ (c .before .before .before .if3 .left)))
+returns-4 c = ap (λ (s : State). record { verdict = Accepted; state = s }) (c .opening .ensures ∙ ap₂ (opened (c .before .before .before .before .before .before .before .before .args .n)) (c .before .before .active-from .ensures) (c .before .color-from .ensures)) ∙ sym (good-flags _ _ (omega arith) (c .before .before .before .before .before .if2 .left) (told-true (c .before .before .before .before .flags-fit .ensures) (c .before .before .before .if3 .left)))
 
 pub start-spec : {M : Type 1} → statement M
 start-spec =

@@ -1,0 +1,36 @@
+-- `decimal::number` meets its contract. Assumes nothing.
+use borrow.Author.Tests.{eq-eqb, ne-eqb, lt-ltb, le-ltb, le-leb, lt-leb}
+use Rattle.decimal.specs.Number.{numberOf, checked}
+use borrow.Author.Needs.{needs}
+use Rattle.decimal.proofs.number.Statement.{statement}
+use Rattle.decimal.proofs.number.Tie as tie
+
+scan-digits-requires : tie.Need-scan-digits-requires
+scan-digits-requires c κs = search needs
+
+returns : tie.Need-returns
+unfolding numberOf checked
+returns c = rw (← c .before .before .scan-digits .ensures, le-leb _ _ (c .if1 .taken))
+
+byte-at-requires : tie.Need-byte-at-requires
+byte-at-requires c κs = search needs
+
+add-if3 : tie.Need-add-if3
+add-if3 c = search needs
+
+returns-2 : tie.Need-returns-2
+unfolding numberOf checked
+returns-2 c = rw (← c .before .before .before .before .before .before .scan-digits .ensures, lt-leb _ _ (c .before .before .before .before .if1 .left), ← c .before .before .before .byte-at .ensures, eq-eqb _ _ (c .before .before .if2 .taken), lt-ltb _ _ (c .if3 .taken))
+
+returns-3 : tie.Need-returns-3
+unfolding numberOf checked
+returns-3 c = rw (← c .before .before .before .before .before .before .scan-digits .ensures, lt-leb _ _ (c .before .before .before .before .if1 .left), ← c .before .before .before .byte-at .ensures, eq-eqb _ _ (c .before .before .if2 .taken), le-ltb _ _ (c .if3 .left))
+
+returns-4 : tie.Need-returns-4
+unfolding numberOf checked
+returns-4 c = rw (← c .before .before .before .before .scan-digits .ensures, lt-leb _ _ (c .before .before .if1 .left), ← c .before .byte-at .ensures, ne-eqb _ _ (c .if2 .left))
+
+pub number-spec : {M : Type 1} → statement M
+number-spec =
+    tie.close
+    (tie.spec scan-digits-requires returns byte-at-requires add-if3 returns-2 returns-3 returns-4)

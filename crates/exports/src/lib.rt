@@ -1,0 +1,183 @@
+// What other languages call: a ring lent field by field, stepped or driven in place.
+use ring::Ring;
+use ring_rules::Reason;
+ghost use mathlib.Core.Path.{_≡_};
+ghost use Rattle.refusal.specs.Table.{codeOf};
+ghost use Rattle.ring_rules.specs.Soundness.{soundTest};
+ghost use Rattle.ring_rules.specs.Answers.{stepOf};
+ghost use Rattle.ring_rules.specs.Driver.{driveOf};
+ghost use Rattle.ring.specs.View.{state};
+ghost use Rattle.exports.specs.Lent.{lent, reasonOf};
+
+// The ring that lies in lent fields.
+fn gathered(
+    n: usize,
+    active: [bool; 96],
+    color: [u8; 12],
+    sent: [u32; 96],
+    received: [u32; 96],
+    pending: [u32; 96],
+    pos: usize,
+    q: i64,
+    black: bool,
+    closed: bool,
+) -> Ring
+    ensures { λ r. ⌜ state r ≡ lent n active color sent received pending pos q black closed ⌝ }
+{
+    Ring {
+        n,
+        active,
+        color,
+        sent,
+        received,
+        pending,
+        pos,
+        q,
+        black,
+        closed,
+    }
+}
+
+// A step in place: the number of its answer, 0 where it is accepted.
+#[no_mangle]
+pub extern "C" fn ring_step(
+    n: usize,
+    active: &mut [bool; 96],
+    color: &mut [u8; 12],
+    sent: &mut [u32; 96],
+    received: &mut [u32; 96],
+    pending: &mut [u32; 96],
+    pos: &mut usize,
+    q: &mut i64,
+    black: &mut bool,
+    closed: &mut bool,
+    kind: u8,
+    i: usize,
+    j: usize,
+) -> u8
+    ensures { λ r. ⌜ (r ≡ codeOf (stepOf (lent n (now (active .entry)) (now (color .entry)) (now (sent .entry)) (now (received .entry)) (now (pending .entry)) (now (pos .entry)) (now (q .entry)) (now (black .entry)) (now (closed .entry))) kind i j .verdict))
+        × (lent (stepOf (lent n (now (active .entry)) (now (color .entry)) (now (sent .entry)) (now (received .entry)) (now (pending .entry)) (now (pos .entry)) (now (q .entry)) (now (black .entry)) (now (closed .entry))) kind i j .state .n) (now (active .exit)) (now (color .exit)) (now (sent .exit)) (now (received .exit)) (now (pending .exit)) (now (pos .exit)) (now (q .exit)) (now (black .exit)) (now (closed .exit))
+        ≡ stepOf (lent n (now (active .entry)) (now (color .entry)) (now (sent .entry)) (now (received .entry)) (now (pending .entry)) (now (pos .entry)) (now (q .entry)) (now (black .entry)) (now (closed .entry))) kind i j .state) ⌝ }
+{
+    let ring = gathered(
+        n,
+        *active,
+        *color,
+        *sent,
+        *received,
+        *pending,
+        *pos,
+        *q,
+        *black,
+        *closed,
+    );
+    let s = ring.step(kind, i, j);
+    let verdict = s.verdict;
+    let next = s.ring;
+    let active_now = next.active;
+    *active = active_now;
+    let color_now = next.color;
+    *color = color_now;
+    let sent_now = next.sent;
+    *sent = sent_now;
+    let received_now = next.received;
+    *received = received_now;
+    let pending_now = next.pending;
+    *pending = pending_now;
+    *pos = next.pos;
+    let q_now = next.q;
+    *q = q_now;
+    *black = next.black;
+    *closed = next.closed;
+    refusal::code(verdict)
+}
+
+// Is the ring sound?
+#[no_mangle]
+pub extern "C" fn ring_is_sound(
+    n: usize,
+    active: &[bool; 96],
+    color: &[u8; 12],
+    sent: &[u32; 96],
+    received: &[u32; 96],
+    pending: &[u32; 96],
+    pos: usize,
+    q: i64,
+    black: bool,
+    closed: bool,
+) -> bool
+    ensures { λ b. ⌜ b ≡ soundTest (lent n (now (active .entry)) (now (color .entry)) (now (sent .entry)) (now (received .entry)) (now (pending .entry)) pos q black closed) ⌝ }
+{
+    let sound = gathered(
+        n,
+        *active,
+        *color,
+        *sent,
+        *received,
+        *pending,
+        pos,
+        q,
+        black,
+        closed,
+    ).is_sound();
+    sound
+}
+
+// 0 for conclusive, 1 for waiting, 2 for spent, and else the number of the refusal.
+fn reason_number(e: Reason) -> u8
+    ensures { λ r. ⌜ r ≡ reasonOf e ⌝ }
+{
+    match e {
+        Reason::Conclusive => 0,
+        Reason::Waiting => 1,
+        Reason::Spent => 2,
+        Reason::Stopped(r) => refusal::number(r),
+    }
+}
+
+// The driver in place: the number of its reason; `moves` is how many it made.
+#[no_mangle]
+pub extern "C" fn ring_drive(
+    n: usize,
+    active: &[bool; 96],
+    color: &mut [u8; 12],
+    sent: &[u32; 96],
+    received: &[u32; 96],
+    pending: &[u32; 96],
+    pos: &mut usize,
+    q: &mut i64,
+    black: &mut bool,
+    closed: bool,
+    limit: u32,
+    moves: &mut u32,
+) -> u8
+    ensures { λ r. ⌜ (r ≡ reasonOf (driveOf (lent n (now (active .entry)) (now (color .entry)) (now (sent .entry)) (now (received .entry)) (now (pending .entry)) (now (pos .entry)) (now (q .entry)) (now (black .entry)) closed) limit .reason))
+        × (now (moves .exit) ≡ driveOf (lent n (now (active .entry)) (now (color .entry)) (now (sent .entry)) (now (received .entry)) (now (pending .entry)) (now (pos .entry)) (now (q .entry)) (now (black .entry)) closed) limit .moves)
+        × (lent (driveOf (lent n (now (active .entry)) (now (color .entry)) (now (sent .entry)) (now (received .entry)) (now (pending .entry)) (now (pos .entry)) (now (q .entry)) (now (black .entry)) closed) limit .state .n) (driveOf (lent n (now (active .entry)) (now (color .entry)) (now (sent .entry)) (now (received .entry)) (now (pending .entry)) (now (pos .entry)) (now (q .entry)) (now (black .entry)) closed) limit .state .active) (now (color .exit)) (driveOf (lent n (now (active .entry)) (now (color .entry)) (now (sent .entry)) (now (received .entry)) (now (pending .entry)) (now (pos .entry)) (now (q .entry)) (now (black .entry)) closed) limit .state .sent) (driveOf (lent n (now (active .entry)) (now (color .entry)) (now (sent .entry)) (now (received .entry)) (now (pending .entry)) (now (pos .entry)) (now (q .entry)) (now (black .entry)) closed) limit .state .received) (driveOf (lent n (now (active .entry)) (now (color .entry)) (now (sent .entry)) (now (received .entry)) (now (pending .entry)) (now (pos .entry)) (now (q .entry)) (now (black .entry)) closed) limit .state .pending) (now (pos .exit)) (now (q .exit)) (now (black .exit)) (driveOf (lent n (now (active .entry)) (now (color .entry)) (now (sent .entry)) (now (received .entry)) (now (pending .entry)) (now (pos .entry)) (now (q .entry)) (now (black .entry)) closed) limit .state .closed)
+        ≡ driveOf (lent n (now (active .entry)) (now (color .entry)) (now (sent .entry)) (now (received .entry)) (now (pending .entry)) (now (pos .entry)) (now (q .entry)) (now (black .entry)) closed) limit .state) ⌝ }
+{
+    let ring = gathered(
+        n,
+        *active,
+        *color,
+        *sent,
+        *received,
+        *pending,
+        *pos,
+        *q,
+        *black,
+        closed,
+    );
+    let d = ring.drive(limit);
+    let reason = d.reason;
+    let made = d.moves;
+    let next = d.ring;
+    let color_now = next.color;
+    *color = color_now;
+    *pos = next.pos;
+    let q_now = next.q;
+    *q = q_now;
+    *black = next.black;
+    *moves = made;
+    reason_number(reason)
+}

@@ -1,0 +1,5 @@
+pub mod Nodes
+pub mod Opens
+pub mod Seen
+pub mod Meaning
+pub mod Once

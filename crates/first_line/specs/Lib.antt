@@ -1,0 +1,5 @@
+pub mod Start
+pub mod Read
+pub mod Exact
+pub mod Meaning
+pub mod Laws

@@ -1,0 +1,43 @@
+-- The lines that document 01 shows are those of their forms. Assumes nothing.
+use mathlib.Core.Path.{_≡_, refl}
+use mathlib.Core.List.{List, [], _∷_, map}
+use Rattle.decimal.specs.Bytes.{bytes}
+use Rattle.decimal.specs.Text.{digits, decimal}
+use Rattle.forms.specs.Form.{Form, bareRing, ringWith, treeOf, send, takeOne, takeFrom, idle, probe, pass, ack, leave, announce, formText}
+
+abbrev shown : List Form
+shown =
+    ringWith 2 [] (1 ∷ [])
+    ∷ bareRing 2
+    ∷ treeOf 3 0
+    ∷ send 0 1
+    ∷ takeOne 1
+    ∷ idle 0
+    ∷ probe
+    ∷ pass 1
+    ∷ announce
+    ∷ takeFrom 1 0
+    ∷ ack 0
+    ∷ leave 1
+    ∷ ringWith 3 (0 ∷ 2 ∷ []) []
+    ∷ send 10 99999
+    ∷ []
+
+pub lines-shown : map formText shown
+    ≡ (bytes "(ring 2 (active) (black 1))\n"
+    ∷ bytes "(ring 2)\n"
+    ∷ bytes "(tree 3 (root 0))\n"
+    ∷ bytes "(send 0 1)\n"
+    ∷ bytes "(take 1)\n"
+    ∷ bytes "(idle 0)\n"
+    ∷ bytes "(probe)\n"
+    ∷ bytes "(pass 1)\n"
+    ∷ bytes "(announce)\n"
+    ∷ bytes "(take 1 0)\n"
+    ∷ bytes "(ack 0)\n"
+    ∷ bytes "(leave 1)\n"
+    ∷ bytes "(ring 3 (active 0 2) (black))\n"
+    ∷ bytes "(send 10 99999)\n"
+    ∷ [])
+unfolding decimal digits
+lines-shown = refl

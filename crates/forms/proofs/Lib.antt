@@ -1,0 +1,5 @@
+pub mod Lines
+pub mod Arguments
+pub mod Shapes
+pub mod Steps
+pub mod Examples

@@ -1,0 +1,107 @@
+-- No byte 10 stands inside a form but its last: a form's text is the first line of every text that begins with it. Assumes nothing.
+use mathlib.Core.Path.{_≡_, refl, sym, ap, _∙_}
+use mathlib.Core.Bool.{Bool, true, false}
+use mathlib.Core.Logic.{_↔_}
+use mathlib.Core.List.{List, [], _∷_, _++_, append-assoc, append-nil}
+use Prim.Native.Nat.{ℕ, _+_, _<_}
+use native.Mathlib.Omega.{arith}
+use lib.ListN.{length, drop}
+use lib.Dec.{eqb}
+use lib.Seq.{drop-length}
+use borrow.Author.Tests.{ne-eqb}
+use Rattle.decimal.specs.Bytes.{bytes}
+use Rattle.decimal.specs.Text.{decimal}
+use Rattle.decimal.proofs.Numbers.{Digits, decimal-digits, digit-low}
+use Rattle.forms.specs.Form.{Form, bareRing, ringWith, treeOf, send, takeOne, takeFrom, idle, probe, pass, ack, leave, announce, numbers, formText, Says, pickLine, line, SaysAt}
+
+line-digits : (d l : List ℕ) → Digits d → line (d ++ l) ≡ d ++ line l
+unfolding line
+line-digits [] l h = refl
+line-digits (b ∷ d) l h =
+    let z : b ≡ 10 → ⊥ = λ e. omega (arith, digit-low b (h .0)) in
+    rw (ne-eqb b 10 z) (ap (λ (t : List ℕ). b ∷ t) (line-digits d l (h .1)))
+
+line-decimal : (n : ℕ) (l : List ℕ) → line (decimal n ++ l) ≡ decimal n ++ line l
+line-decimal n l = line-digits (decimal n) l (decimal-digits n)
+
+line-numbers : (ks l : List ℕ) → line (numbers ks ++ l) ≡ numbers ks ++ line l
+unfolding line
+line-numbers [] l = refl
+line-numbers (k ∷ ks) l =
+    ap (λ (t : List ℕ). 32 ∷ t)
+    (ap line (append-assoc (decimal k) (numbers ks) l)
+    ∙ (line-decimal k (numbers ks ++ l)
+    ∙ (ap (λ (t : List ℕ). decimal k ++ t) (line-numbers ks l) ∙ sym (append-assoc (decimal k) (numbers ks) (line l)))))
+
+-- the line of a number and what follows
+after : (n : ℕ) (l u t : List ℕ) → line (l ++ u) ≡ t → line ((decimal n ++ l) ++ u) ≡ decimal n ++ t
+after n l u t h =
+    ap line (append-assoc (decimal n) l u) ∙ (line-decimal n (l ++ u) ∙ ap (λ (x : List ℕ). decimal n ++ x) h)
+
+after-all : (ks l u t : List ℕ) → line (l ++ u) ≡ t → line ((numbers ks ++ l) ++ u) ≡ numbers ks ++ t
+after-all ks l u t h =
+    ap line (append-assoc (numbers ks) l u) ∙ (line-numbers ks (l ++ u) ∙ ap (λ (x : List ℕ). numbers ks ++ x) h)
+
+pub form-line : (f : Form) (u : List ℕ) → line (formText f ++ u) ≡ formText f
+unfolding line
+form-line (bareRing n) u = ap (λ (l : List ℕ). bytes "(ring " ++ l) (after n (bytes ")\n") u _ refl)
+form-line (ringWith n active black) u =
+    ap (λ (l : List ℕ). bytes "(ring " ++ l)
+    (after n _ u _ (ap (λ (l : List ℕ). bytes " (active" ++ l)
+    (after-all active _ u _ (ap (λ (l : List ℕ). bytes ") (black" ++ l) (after-all black (bytes "))\n") u _ refl)))))
+form-line (treeOf n root) u =
+    ap (λ (l : List ℕ). bytes "(tree " ++ l)
+    (after n _ u _ (ap (λ (l : List ℕ). bytes " (root " ++ l) (after root (bytes "))\n") u _ refl)))
+form-line (send i j) u =
+    ap (λ (l : List ℕ). bytes "(send " ++ l)
+    (after i _ u _ (ap (λ (l : List ℕ). bytes " " ++ l) (after j (bytes ")\n") u _ refl)))
+form-line (takeOne i) u = ap (λ (l : List ℕ). bytes "(take " ++ l) (after i (bytes ")\n") u _ refl)
+form-line (takeFrom i k) u =
+    ap (λ (l : List ℕ). bytes "(take " ++ l)
+    (after i _ u _ (ap (λ (l : List ℕ). bytes " " ++ l) (after k (bytes ")\n") u _ refl)))
+form-line (idle i) u = ap (λ (l : List ℕ). bytes "(idle " ++ l) (after i (bytes ")\n") u _ refl)
+form-line probe u = refl
+form-line (pass i) u = ap (λ (l : List ℕ). bytes "(pass " ++ l) (after i (bytes ")\n") u _ refl)
+form-line (ack i) u = ap (λ (l : List ℕ). bytes "(ack " ++ l) (after i (bytes ")\n") u _ refl)
+form-line (leave i) u = ap (λ (l : List ℕ). bytes "(leave " ++ l) (after i (bytes ")\n") u _ refl)
+form-line announce u = refl
+
+-- a text is its first line, and what follows
+line-by : (b : ℕ) (l : List ℕ) (t : Bool) → l ≡ line l ++ drop (length (line l)) l
+    → b ∷ l ≡ (b ∷ pickLine t [] (line l)) ++ drop (length (b ∷ pickLine t [] (line l))) (b ∷ l)
+line-by b l true h = refl
+line-by b l false h = ap (λ (x : List ℕ). b ∷ x) h
+
+pub line-rest : (l : List ℕ) → l ≡ line l ++ drop (length (line l)) l
+unfolding line
+line-rest [] = refl
+line-rest (b ∷ l) = line-by b l (eqb b 10) (line-rest l)
+
+pub form-some : (f : Form) → 0 < length (formText f)
+form-some (bareRing n) = omega arith
+form-some (ringWith n active black) = omega arith
+form-some (treeOf n root) = omega arith
+form-some (send i j) = omega arith
+form-some (takeOne i) = omega arith
+form-some (takeFrom i k) = omega arith
+form-some (idle i) = omega arith
+form-some probe = omega arith
+form-some (pass i) = omega arith
+form-some (ack i) = omega arith
+form-some (leave i) = omega arith
+form-some announce = omega arith
+
+-- a line that is handed over by itself
+pub says-whole : (s : List ℕ) (f : Form) → Says s f ↔ SaysAt s 0 f (length s)
+says-whole s f = (
+  λ h.
+      let e : s ≡ formText f ++ [] = h .0 ∙ sym (append-nil (formText f)) in
+      let n : length s ≡ 0 + length (formText f) = omega (arith, ap length (h .0)) in
+      ((ap line e ∙ form-line f [], h .1), n),
+  λ h.
+      let n : length (line s) ≡ length s = omega (arith, ap length (h .0 .0), h .1) in
+      let e : s ≡ formText f ++ drop (length s) s =
+      line-rest s
+      ∙ (ap (λ (l : List ℕ). l ++ drop (length (line s)) s) (h .0 .0) ∙ ap (λ (k : ℕ). formText f ++ drop k s) n) in
+      (e ∙ (ap (λ (l : List ℕ). formText f ++ l) (drop-length s) ∙ append-nil (formText f)), h .0 .1),
+)

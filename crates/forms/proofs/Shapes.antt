@@ -1,0 +1,211 @@
+-- A table of shapes reads exactly the forms that it makes, if its words differ from each other. Assumes nothing.
+use mathlib.Core.Path.{_≡_, refl, sym, ap, _∙_, subst}
+use mathlib.Core.Bool.{Bool, true, false}
+use mathlib.Core.Logic.{_↔_}
+use mathlib.Core.List.{List, [], _∷_, _++_, append-assoc}
+use Prim.Native.Nat.{ℕ, _+_, _≤_, _<_}
+use native.Mathlib.Omega.{arith}
+use lib.ListN.{length, drop, length-append}
+use lib.Dec.{eqb}
+use Rattle.decimal.specs.Word.{both, starts}
+use Rattle.decimal.proofs.Cases.{both-left, both-right, advance}
+use Rattle.decimal.proofs.Words.{word-sound, word-back}
+use Rattle.forms.specs.declared.Args.{Args}
+use Rattle.forms.specs.declared.Args.the-variants.{Found, Bad}
+use Rattle.forms.specs.Form.{Form, formText, SmallForm, Valid, Says, line, SaysAt}
+use Rattle.forms.specs.Read.{pick, argsOf, Read, read, other, madeOf, Shape, readBy}
+use Rattle.forms.proofs.Arguments.{argsText, SmallArgs, args-short, args-sound, args-found}
+use Rattle.forms.proofs.Lines.{form-line, form-some, line-rest}
+
+-- 1. words that differ at a byte which both have
+abbrev clash : List ℕ → List ℕ → Bool
+clash [] w = false
+clash (x ∷ v) [] = false
+clash (x ∷ v) (y ∷ w) = pick (eqb y x) (clash v w) true
+
+pub clash-by : (t a b : Bool) → pick t a true ≡ true → (a ≡ true → b ≡ false) → both t b ≡ false
+clash-by true a b h f = f h
+clash-by false a b h f = refl
+
+pub clash-off : (v w u : List ℕ) → clash v w ≡ true → starts v (w ++ u) ≡ false
+unfolding starts
+clash-off [] w u h = let z : false ≡ true = h in cc
+clash-off (x ∷ v) [] u h = let z : false ≡ true = h in cc
+clash-off (x ∷ v) (y ∷ w) u h = clash-by (eqb y x) (clash v w) (starts v (w ++ u)) h (clash-off v w u)
+
+-- a shape of the table
+pub data In {A : Type 0} (h : Shape A) : List (Shape A) → Type 0 where
+  here : {hs : List (Shape A)} → In h (h ∷ hs)
+  there : {g : Shape A} {hs : List (Shape A)} → In h hs → In h (g ∷ hs)
+
+abbrev clashes : {A : Type 0} → List ℕ → List (Shape A) → Bool
+clashes v [] = true
+clashes v (h ∷ hs) = both (clash v (h .word)) (clashes v hs)
+
+clashes-in : {A : Type 0} (v : List ℕ) {h : Shape A} {hs : List (Shape A)} → In h hs → clashes v hs ≡ true → clash v (h .word) ≡ true
+clashes-in v {h} (here {hs}) e = both-left (clash v (h .word)) (clashes v hs) e
+clashes-in v (there {g} {hs} m) e = clashes-in v m (both-right (clash v (g .word)) (clashes v hs) e)
+
+-- each word of the table differs from those after it
+abbrev pub apart : {A : Type 0} → List (Shape A) → Bool
+apart [] = true
+apart (h ∷ hs) = both (clashes (h .word) hs) (apart hs)
+
+-- 2. a form that stands there is read
+pub read-found : {A : Type 0} {h : Shape A} {hs : List (Shape A)} → In h hs → apart hs ≡ true
+    → (s : List ℕ) (at i j : ℕ) (u : List ℕ) → SmallArgs (h .count) i j → drop at s ≡ h .word ++ (argsText (h .count) i j ++ u)
+    → readBy hs s at ≡ read (h .made i j) (at + length (h .word) + length (argsText (h .count) i j))
+unfolding readBy madeOf
+read-found {h = h} (here {hs}) e s at i j u small p =
+    let q : drop (at + length (h .word)) s ≡ argsText (h .count) i j ++ u = advance s (h .word) (argsText (h .count) i j ++ u) at p in
+    rw (word-back s at (h .word) (argsText (h .count) i j ++ u) p, args-found (h .count) s (at + length (h .word)) i j u small q)
+read-found {h = h} (there {g} {hs} m) e s at i j u small p =
+    let c : clash (g .word) (h .word) ≡ true = clashes-in (g .word) m (both-left (clashes (g .word) hs) (apart hs) e) in
+    let off : starts (g .word) (drop at s) ≡ false = ap (starts (g .word)) p ∙ clash-off (g .word) (h .word) (argsText (h .count) i j ++ u) c in
+    rw off (read-found m (both-right (clashes (g .word) hs) (apart hs) e) s at i j u small p)
+
+-- 3. what is read stands there
+module _ {A : Type 0} (form : A → Form) where
+  -- the shape spells its forms
+  pub record Spells (h : Shape A) : Type 0 where
+    pub short : length (h .word) ≤ 600
+    pub spelled : (i j : ℕ) → SmallArgs (h .count) i j → formText (form (h .made i j)) ≡ h .word ++ argsText (h .count) i j
+    pub fits : (i j : ℕ) → SmallArgs (h .count) i j → SmallForm (form (h .made i j))
+
+  abbrev pub Spelled : List (Shape A) → Type 0
+  Spelled [] = Unit {0}
+  Spelled (h ∷ hs) = Spells h × Spelled hs
+
+  spells-in : {h : Shape A} {hs : List (Shape A)} → In h hs → Spelled hs → Spells h
+  spells-in here p = p .0
+  spells-in (there m) p = spells-in m (p .1)
+
+  -- a form that was read
+  pub record Stood (s : List ℕ) (at : ℕ) (a : A) (e : ℕ) : Type 0 where
+    pub text : drop at s ≡ formText (form a) ++ drop e s
+    pub ends : e ≡ at + length (formText (form a))
+    pub inside : e ≤ length s
+    pub valid : Valid (form a)
+
+  abbrev Sound : List ℕ → ℕ → Read A → Type 0
+  Sound s at (read a e) = Stood s at a e
+  Sound s at other = Unit {0}
+
+  made-sound : (h : Shape A) → Spells h → (s : List ℕ) (at : ℕ) → drop at s ≡ h .word ++ drop (at + length (h .word)) s
+      → (r : Args) → argsOf (h .count) s (at + length (h .word)) ≡ r → Sound s at (madeOf (h .made) r)
+  unfolding madeOf
+  made-sound h p s at w Bad q = tt
+  made-sound h p s at w (Found i j e) q =
+      let r = args-sound (h .count) s (at + length (h .word)) i j e q in
+      let t = p .spelled i j (r .small) in
+      let args = argsText (h .count) i j in
+      let long : length (formText (form (h .made i j))) ≡ length (h .word) + length args = ap length t ∙ length-append (h .word) args in
+      record {
+        text = w
+            ∙ (ap (λ (l : List ℕ). h .word ++ l) (r .text)
+            ∙ (sym (append-assoc (h .word) args (drop e s)) ∙ ap (λ (l : List ℕ). l ++ drop e s) (sym t)));
+        ends = omega (arith, r .ends, long);
+        inside = r .inside;
+        valid = (p .fits i j (r .small), omega (arith, long, p .short, args-short (h .count) i j (r .small)));
+      }
+
+  pick-sound : (s : List ℕ) (at : ℕ) (t : Bool) (a b : Read A) → (t ≡ true → Sound s at a) → Sound s at b → Sound s at (pick t a b)
+  pick-sound s at true a b f g = f refl
+  pick-sound s at false a b f g = g
+
+  read-sound : (hs : List (Shape A)) → Spelled hs → (s : List ℕ) (at : ℕ) → Sound s at (readBy hs s at)
+  unfolding readBy
+  read-sound [] p s at = tt
+  read-sound (h ∷ hs) p s at =
+      pick-sound s at (starts (h .word) (drop at s)) _ _
+      (λ w. made-sound h (p .0) s at (word-sound s at (h .word) w) (argsOf (h .count) s (at + length (h .word))) refl)
+      (read-sound hs (p .1) s at)
+
+  stood-by : (s : List ℕ) (at : ℕ) (r : Read A) → Sound s at r → (a : A) (e : ℕ) → r ≡ read a e → Stood s at a e
+  stood-by s at other h a e q = absurd (let z : _≡_ {A = ℕ} 0 1 = cc in let y : ⊥ = omega arith in y)
+  stood-by s at (read b d) h a e q =
+      let p : b ≡ a = cc in
+      let x : d ≡ e = cc in
+      rw (p, x) at h
+
+  -- 4. exact both ways, if every form is one of the table's
+  pub record Entry (hs : List (Shape A)) (a : A) : Type 0 where
+    pub of : Shape A
+    pub among : In of hs
+    pub first : ℕ
+    pub second : ℕ
+    pub makes : of .made first second ≡ a
+    pub needs : SmallForm (form a) → SmallArgs (of .count) first second
+
+  module _ (hs : List (Shape A)) (spelled : Spelled hs) (differ : apart hs ≡ true) (entry : (a : A) → Entry hs a) where
+    pub table-stood : (s : List ℕ) (at : ℕ) (a : A) (e : ℕ) → readBy hs s at ≡ read a e → Stood s at a e
+    table-stood s at a e h = stood-by s at (readBy hs s at) (read-sound hs spelled s at) a e h
+
+    pub table-sound : (s : List ℕ) (at : ℕ) (a : A) (e : ℕ) → readBy hs s at ≡ read a e → SaysAt s at (form a) e
+    table-sound s at a e h =
+        let r = table-stood s at a e h in
+        ((ap line (r .text) ∙ form-line (form a) (drop e s), r .valid), r .ends)
+
+    pub table-found : (s : List ℕ) (at : ℕ) (a : A) (u : List ℕ) → SmallForm (form a) → drop at s ≡ formText (form a) ++ u
+        → readBy hs s at ≡ read a (at + length (formText (form a)))
+    table-found s at a u small p =
+        let y = entry a in
+        let g = y .of in
+        let args = argsText (g .count) (y .first) (y .second) in
+        let ok = y .needs small in
+        let t : formText (form a) ≡ g .word ++ args =
+        ap (λ (x : A). formText (form x)) (sym (y .makes)) ∙ spells-in (y .among) spelled .spelled (y .first) (y .second) ok in
+        let q : drop at s ≡ g .word ++ (args ++ u) = p ∙ (ap (λ (l : List ℕ). l ++ u) t ∙ append-assoc (g .word) args u) in
+        let long : length (formText (form a)) ≡ length (g .word) + length args = ap length t ∙ length-append (g .word) args in
+        let e : at + length (g .word) + length args ≡ at + length (formText (form a)) = omega (arith, long) in
+        read-found (y .among) differ s at (y .first) (y .second) u ok q
+        ∙ (ap (λ (x : A). read x (at + length (g .word) + length args)) (y .makes) ∙ ap (read a) e)
+
+    pub table-whole : (s : List ℕ) (at : ℕ) (a : A) (e : ℕ) → SaysAt s at (form a) e → readBy hs s at ≡ read a e
+    table-whole s at a e ((is, (small, few)), ends) =
+        let n = length (line (drop at s)) in
+        let p : drop at s ≡ formText (form a) ++ drop n (drop at s) =
+        line-rest (drop at s) ∙ ap (λ (l : List ℕ). l ++ drop n (drop at s)) is in
+        table-found s at a (drop n (drop at s)) small p ∙ ap (read a) (sym ends)
+
+    pub table-exact : (s : List ℕ) (at : ℕ) (a : A) (e : ℕ) → (readBy hs s at ≡ read a e) ↔ SaysAt s at (form a) e
+    table-exact s at a e = (table-sound s at a e, table-whole s at a e)
+
+    -- none is read exactly if the line says none
+    none-by : (s : List ℕ) (at : ℕ) (r : Read A) → readBy hs s at ≡ r → ((a : A) → Says (line (drop at s)) (form a) → ⊥) → r ≡ other
+    none-by s at other h no-one = refl
+    none-by s at (read a e) h no-one = absurd (no-one a (table-sound s at a e h .0))
+
+    pub table-other : (s : List ℕ) (at : ℕ) → (readBy hs s at ≡ other) ↔ ((a : A) → Says (line (drop at s)) (form a) → ⊥)
+    table-other s at = (
+      λ h a says.
+          let e : readBy hs s at ≡ read a (at + length (formText (form a))) = table-whole s at a (at + length (formText (form a))) (says, refl) in
+          let z : _≡_ {A = ℕ} 0 1 = cc in omega arith,
+      none-by s at (readBy hs s at) refl,
+    )
+
+    -- no two forms of a table share a line
+    pub table-once : (a b : A) → SmallForm (form a) → SmallForm (form b) → formText (form a) ≡ formText (form b) → a ≡ b
+    table-once a b ha hb e =
+        let f : readBy hs (formText (form a) ++ []) 0 ≡ read a (0 + length (formText (form a))) = table-found (formText (form a) ++ []) 0 a [] ha refl in
+        let g : readBy hs (formText (form a) ++ []) 0 ≡ read b (0 + length (formText (form b))) =
+        table-found (formText (form a) ++ []) 0 b [] hb (ap (λ (l : List ℕ). l ++ []) e) in
+        cc
+
+    -- 5. the same of an answer of the code's own type, in which `step` is what was read
+    module _ (L : Type 0) (answer : Read A → L) (step : A → ℕ → L) (on : (a : A) (e : ℕ) → answer (read a e) ≡ step a e)
+        (back : (r : Read A) (a : A) (e : ℕ) → answer r ≡ step a e → r ≡ read a e) where
+      pub answer-exact : (s : List ℕ) (at : ℕ) (a : A) (e : ℕ) → (answer (readBy hs s at) ≡ step a e) ↔ SaysAt s at (form a) e
+      answer-exact s at a e = (λ h. table-sound s at a e (back (readBy hs s at) a e h), λ h. ap answer (table-whole s at a e h) ∙ on a e)
+
+      -- a contract, from its equation
+      pub answer-told : (s : List ℕ) (at : ℕ) (r : L) → r ≡ answer (readBy hs s at)
+          → (r ≡ answer (readBy hs s at)) × ((a : A) (e : ℕ) → (r ≡ step a e) ↔ SaysAt s at (form a) e)
+      answer-told s at r h =
+          (h, subst (λ (x : L). (a : A) (e : ℕ) → (x ≡ step a e) ↔ SaysAt s at (form a) e) (sym h) (answer-exact s at))
+
+      -- what was read lies inside
+      pub answer-inside : (s : List ℕ) (at : ℕ) (a : A) (e : ℕ) → answer (readBy hs s at) ≡ step a e → (at < e) × (e ≤ length s)
+      answer-inside s at a e h =
+          let r = table-stood s at a e (back (readBy hs s at) a e h) in
+          (omega (arith, r .ends, form-some (form a)), r .inside)

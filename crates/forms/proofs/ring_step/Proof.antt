@@ -1,0 +1,189 @@
+-- `forms::ring_step` meets its contract. Assumes nothing.
+use native.Mathlib.Omega.{arith}
+use mathlib.Core.Path.{sym, ap, _∙_}
+use Rattle.decimal.specs.Bytes.{bytes}
+use Rattle.decimal.proofs.Words.{word-in}
+use Rattle.forms.specs.declared.Args.{Args}
+use Rattle.forms.specs.Read.{madeOf, ringKind, ringLineOf, readBy, ringAt}
+use Rattle.forms.proofs.Steps.{ring-told}
+use borrow.Author.Needs.{needs}
+use Rattle.forms.proofs.ring_step.Statement.{statement}
+use Rattle.forms.proofs.ring_step.Tie as tie
+
+slice-aggregate-has : tie.Need-slice-aggregate-has
+slice-aggregate-has c = search needs
+
+has-requires : tie.Need-has-requires
+has-requires c κs = search needs
+
+add-two-numbers : tie.Need-add-two-numbers
+add-two-numbers c = omega (arith, word-in (c .before .before .before .before .args .s .now) (c .before .before .before .before .args .at) (bytes "(send") (omega arith) (sym (c .before .has .ensures) ∙ c .if1 .taken))
+
+two-numbers-requires : tie.Need-two-numbers-requires
+two-numbers-requires c κs = search needs
+
+ring-line-requires : tie.Need-ring-line-requires
+ring-line-requires c κs = search needs
+
+returns : tie.Need-returns
+unfolding ringAt readBy
+returns c =
+    ring-told (c .before .before .before .before .before .before .args .s .now) (c .before .before .before .before .before .before .args .at) (c .ring-line .result)
+    (rw (sym (c .before .before .before .has .ensures) ∙ c .before .before .if1 .taken)
+    (c .ring-line .ensures ∙ ap (λ (a : Args). ringLineOf (madeOf (ringKind 1) a)) (c .before .two-numbers .ensures)))
+
+slice-aggregate-has-2 : tie.Need-slice-aggregate-has-2
+slice-aggregate-has-2 c = search needs
+
+has-requires-2 : tie.Need-has-requires-2
+has-requires-2 c κs = search needs
+
+add-one-number : tie.Need-add-one-number
+add-one-number c = omega (arith, word-in (c .before .before .before .before .before .before .before .args .s .now) (c .before .before .before .before .before .before .before .args .at) (bytes "(take") (omega arith) (sym (c .before .has2 .ensures) ∙ c .if2 .taken))
+
+one-number-requires : tie.Need-one-number-requires
+one-number-requires c κs = search needs
+
+ring-line-requires-2 : tie.Need-ring-line-requires-2
+ring-line-requires-2 c κs = search needs
+
+returns-2 : tie.Need-returns-2
+unfolding ringAt readBy
+returns-2 c =
+    ring-told (c .before .before .before .before .before .before .before .before .before .args .s .now) (c .before .before .before .before .before .before .before .before .before .args .at) (c .ring-line2 .result)
+    (rw (sym (c .before .before .before .before .before .before .has .ensures) ∙ c .before .before .before .before .before .if1 .left, sym (c .before .before .before .has2 .ensures) ∙ c .before .before .if2 .taken)
+    (c .ring-line2 .ensures ∙ ap (λ (a : Args). ringLineOf (madeOf (ringKind 2) a)) (c .before .one-number .ensures)))
+
+slice-aggregate-has-3 : tie.Need-slice-aggregate-has-3
+slice-aggregate-has-3 c = search needs
+
+has-requires-3 : tie.Need-has-requires-3
+has-requires-3 c κs = search needs
+
+add-one-number-2 : tie.Need-add-one-number-2
+add-one-number-2 c = omega (arith, word-in (c .before .before .before .before .before .before .before .before .before .before .args .s .now) (c .before .before .before .before .before .before .before .before .before .before .args .at) (bytes "(idle") (omega arith) (sym (c .before .has3 .ensures) ∙ c .if3 .taken))
+
+one-number-requires-2 : tie.Need-one-number-requires-2
+one-number-requires-2 c κs = search needs
+
+ring-line-requires-3 : tie.Need-ring-line-requires-3
+ring-line-requires-3 c κs = search needs
+
+returns-3 : tie.Need-returns-3
+unfolding ringAt readBy
+returns-3 c =
+    ring-told (c .before .before .before .before .before .before .before .before .before .before .before .before .args .s .now) (c .before .before .before .before .before .before .before .before .before .before .before .before .args .at) (c .ring-line3 .result)
+    (rw (sym (c .before .before .before .before .before .before .before .before .before .has .ensures) ∙ c .before .before .before .before .before .before .before .before .if1 .left, sym (c .before .before .before .before .before .before .has2 .ensures) ∙ c .before .before .before .before .before .if2 .left, sym (c .before .before .before .has3 .ensures) ∙ c .before .before .if3 .taken)
+    (c .ring-line3 .ensures ∙ ap (λ (a : Args). ringLineOf (madeOf (ringKind 3) a)) (c .before .one-number2 .ensures)))
+
+slice-aggregate-has-4 : tie.Need-slice-aggregate-has-4
+slice-aggregate-has-4 c = search needs
+
+has-requires-4 : tie.Need-has-requires-4
+has-requires-4 c κs = search needs
+
+add-closed : tie.Need-add-closed
+add-closed c = omega (arith, word-in (c .before .before .before .before .before .before .before .before .before .before .before .before .before .args .s .now) (c .before .before .before .before .before .before .before .before .before .before .before .before .before .args .at) (bytes "(probe") (omega arith) (sym (c .before .has4 .ensures) ∙ c .if4 .taken))
+
+closed-requires : tie.Need-closed-requires
+closed-requires c κs = search needs
+
+ring-line-requires-4 : tie.Need-ring-line-requires-4
+ring-line-requires-4 c κs = search needs
+
+returns-4 : tie.Need-returns-4
+unfolding ringAt readBy
+returns-4 c =
+    ring-told (c .before .before .before .before .before .before .before .before .before .before .before .before .before .before .before .args .s .now) (c .before .before .before .before .before .before .before .before .before .before .before .before .before .before .before .args .at) (c .ring-line4 .result)
+    (rw (sym (c .before .before .before .before .before .before .before .before .before .before .before .before .has .ensures) ∙ c .before .before .before .before .before .before .before .before .before .before .before .if1 .left, sym (c .before .before .before .before .before .before .before .before .before .has2 .ensures) ∙ c .before .before .before .before .before .before .before .before .if2 .left, sym (c .before .before .before .before .before .before .has3 .ensures) ∙ c .before .before .before .before .before .if3 .left, sym (c .before .before .before .has4 .ensures) ∙ c .before .before .if4 .taken)
+    (c .ring-line4 .ensures ∙ ap (λ (a : Args). ringLineOf (madeOf (ringKind 4) a)) (c .before .closed .ensures)))
+
+slice-aggregate-has-5 : tie.Need-slice-aggregate-has-5
+slice-aggregate-has-5 c = search needs
+
+has-requires-5 : tie.Need-has-requires-5
+has-requires-5 c κs = search needs
+
+add-one-number-3 : tie.Need-add-one-number-3
+add-one-number-3 c = omega (arith, word-in (c .before .before .before .before .before .before .before .before .before .before .before .before .before .before .before .before .args .s .now) (c .before .before .before .before .before .before .before .before .before .before .before .before .before .before .before .before .args .at) (bytes "(pass") (omega arith) (sym (c .before .has5 .ensures) ∙ c .if5 .taken))
+
+one-number-requires-3 : tie.Need-one-number-requires-3
+one-number-requires-3 c κs = search needs
+
+ring-line-requires-5 : tie.Need-ring-line-requires-5
+ring-line-requires-5 c κs = search needs
+
+returns-5 : tie.Need-returns-5
+unfolding ringAt readBy
+returns-5 c =
+    ring-told (c .before .before .before .before .before .before .before .before .before .before .before .before .before .before .before .before .before .before .args .s .now) (c .before .before .before .before .before .before .before .before .before .before .before .before .before .before .before .before .before .before .args .at) (c .ring-line5 .result)
+    (rw (sym (c .before .before .before .before .before .before .before .before .before .before .before .before .before .before .before .has .ensures) ∙ c .before .before .before .before .before .before .before .before .before .before .before .before .before .before .if1 .left, sym (c .before .before .before .before .before .before .before .before .before .before .before .before .has2 .ensures) ∙ c .before .before .before .before .before .before .before .before .before .before .before .if2 .left, sym (c .before .before .before .before .before .before .before .before .before .has3 .ensures) ∙ c .before .before .before .before .before .before .before .before .if3 .left, sym (c .before .before .before .before .before .before .has4 .ensures) ∙ c .before .before .before .before .before .if4 .left, sym (c .before .before .before .has5 .ensures) ∙ c .before .before .if5 .taken)
+    (c .ring-line5 .ensures ∙ ap (λ (a : Args). ringLineOf (madeOf (ringKind 5) a)) (c .before .one-number3 .ensures)))
+
+slice-aggregate-has-6 : tie.Need-slice-aggregate-has-6
+slice-aggregate-has-6 c = search needs
+
+has-requires-6 : tie.Need-has-requires-6
+has-requires-6 c κs = search needs
+
+add-closed-2 : tie.Need-add-closed-2
+add-closed-2 c = omega (arith, word-in (c .before .before .before .before .before .before .before .before .before .before .before .before .before .before .before .before .before .before .before .args .s .now) (c .before .before .before .before .before .before .before .before .before .before .before .before .before .before .before .before .before .before .before .args .at) (bytes "(announce") (omega arith) (sym (c .before .has6 .ensures) ∙ c .if6 .taken))
+
+closed-requires-2 : tie.Need-closed-requires-2
+closed-requires-2 c κs = search needs
+
+ring-line-requires-6 : tie.Need-ring-line-requires-6
+ring-line-requires-6 c κs = search needs
+
+returns-6 : tie.Need-returns-6
+unfolding ringAt readBy
+returns-6 c =
+    ring-told (c .before .before .before .before .before .before .before .before .before .before .before .before .before .before .before .before .before .before .before .before .before .args .s .now) (c .before .before .before .before .before .before .before .before .before .before .before .before .before .before .before .before .before .before .before .before .before .args .at) (c .ring-line6 .result)
+    (rw (sym (c .before .before .before .before .before .before .before .before .before .before .before .before .before .before .before .before .before .before .has .ensures) ∙ c .before .before .before .before .before .before .before .before .before .before .before .before .before .before .before .before .before .if1 .left, sym (c .before .before .before .before .before .before .before .before .before .before .before .before .before .before .before .has2 .ensures) ∙ c .before .before .before .before .before .before .before .before .before .before .before .before .before .before .if2 .left, sym (c .before .before .before .before .before .before .before .before .before .before .before .before .has3 .ensures) ∙ c .before .before .before .before .before .before .before .before .before .before .before .if3 .left, sym (c .before .before .before .before .before .before .before .before .before .has4 .ensures) ∙ c .before .before .before .before .before .before .before .before .if4 .left, sym (c .before .before .before .before .before .before .has5 .ensures) ∙ c .before .before .before .before .before .if5 .left, sym (c .before .before .before .has6 .ensures) ∙ c .before .before .if6 .taken)
+    (c .ring-line6 .ensures ∙ ap (λ (a : Args). ringLineOf (madeOf (ringKind 6) a)) (c .before .closed2 .ensures)))
+
+returns-7 : tie.Need-returns-7
+unfolding ringAt readBy
+returns-7 c = ring-told (c .before .before .before .before .before .before .before .before .before .before .before .before .before .before .before .before .before .before .before .args .s .now) (c .before .before .before .before .before .before .before .before .before .before .before .before .before .before .before .before .before .before .before .args .at) _ (rw (sym (c .before .before .before .before .before .before .before .before .before .before .before .before .before .before .before .before .has .ensures) ∙ c .before .before .before .before .before .before .before .before .before .before .before .before .before .before .before .if1 .left, sym (c .before .before .before .before .before .before .before .before .before .before .before .before .before .has2 .ensures) ∙ c .before .before .before .before .before .before .before .before .before .before .before .before .if2 .left, sym (c .before .before .before .before .before .before .before .before .before .before .has3 .ensures) ∙ c .before .before .before .before .before .before .before .before .before .if3 .left, sym (c .before .before .before .before .before .before .before .has4 .ensures) ∙ c .before .before .before .before .before .before .if4 .left, sym (c .before .before .before .before .has5 .ensures) ∙ c .before .before .before .if5 .left, sym (c .before .has6 .ensures) ∙ c .if6 .left))
+
+pub ring-step-spec : {M : Type 1} → statement M
+ring-step-spec =
+    tie.close
+    (tie.spec
+    slice-aggregate-has
+    has-requires
+    add-two-numbers
+    two-numbers-requires
+    ring-line-requires
+    returns
+    slice-aggregate-has-2
+    has-requires-2
+    add-one-number
+    one-number-requires
+    ring-line-requires-2
+    returns-2
+    slice-aggregate-has-3
+    has-requires-3
+    add-one-number-2
+    one-number-requires-2
+    ring-line-requires-3
+    returns-3
+    slice-aggregate-has-4
+    has-requires-4
+    add-closed
+    closed-requires
+    ring-line-requires-4
+    returns-4
+    slice-aggregate-has-5
+    has-requires-5
+    add-one-number-3
+    one-number-requires-3
+    ring-line-requires-5
+    returns-5
+    slice-aggregate-has-6
+    has-requires-6
+    add-closed-2
+    closed-requires-2
+    ring-line-requires-6
+    returns-6
+    returns-7)

@@ -1,0 +1,111 @@
+-- The forms of a log, and the line of each (document 01, "The log program"). Assumes nothing.
+use mathlib.Core.Path.{_≡_}
+use mathlib.Core.Bool.{Bool, true, false}
+use mathlib.Core.List.{List, [], _∷_, _++_}
+use Prim.Native.Nat.{ℕ, _+_, _≤_}
+use lib.ListN.{length, drop}
+use lib.Dec.{eqb}
+use Rattle.decimal.specs.Bytes.{bytes}
+use Rattle.decimal.specs.Text.{decimal}
+use Rattle.forms.specs.declared.RingStep.{RingStep}
+use Rattle.forms.specs.declared.RingStep.the-variants as ring
+use Rattle.forms.specs.declared.TreeStep.{TreeStep}
+use Rattle.forms.specs.declared.TreeStep.the-variants as tree
+
+-- "First line: `(ring 2 (active) (black 1))`, `(ring 2)` or `(tree 3 (root 0))`. A ring line has both lists or neither": the first three.
+-- "Then ring steps .. or tree steps": `takeOne` is the ring's take, `takeFrom` the tree's.
+pub data Form : Type 0 where
+  bareRing : (n : ℕ) → Form
+  ringWith : (n : ℕ) (active black : List ℕ) → Form
+  treeOf : (n root : ℕ) → Form
+  send : (i j : ℕ) → Form
+  takeOne : (i : ℕ) → Form
+  takeFrom : (i k : ℕ) → Form
+  idle : (i : ℕ) → Form
+  probe : Form
+  pass : (i : ℕ) → Form
+  ack : (i : ℕ) → Form
+  leave : (i : ℕ) → Form
+  announce : Form
+
+-- "one space between items": numbers, each after one space
+abbrev pub numbers : List ℕ → List ℕ
+numbers [] = []
+numbers (k ∷ ks) = bytes " " ++ (decimal k ++ numbers ks)
+
+-- "One form a line, ending in byte 10": a form's line, with its byte 10
+abbrev pub formText : Form → List ℕ
+formText (bareRing n) = bytes "(ring " ++ (decimal n ++ bytes ")\n")
+formText (ringWith n active black) =
+    bytes "(ring " ++ (decimal n ++ (bytes " (active" ++ (numbers active ++ (bytes ") (black" ++ (numbers black ++ bytes "))\n")))))
+formText (treeOf n root) = bytes "(tree " ++ (decimal n ++ (bytes " (root " ++ (decimal root ++ bytes "))\n")))
+formText (send i j) = bytes "(send " ++ (decimal i ++ (bytes " " ++ (decimal j ++ bytes ")\n")))
+formText (takeOne i) = bytes "(take " ++ (decimal i ++ bytes ")\n")
+formText (takeFrom i k) = bytes "(take " ++ (decimal i ++ (bytes " " ++ (decimal k ++ bytes ")\n")))
+formText (idle i) = bytes "(idle " ++ (decimal i ++ bytes ")\n")
+formText probe = bytes "(probe)\n"
+formText (pass i) = bytes "(pass " ++ (decimal i ++ bytes ")\n")
+formText (ack i) = bytes "(ack " ++ (decimal i ++ bytes ")\n")
+formText (leave i) = bytes "(leave " ++ (decimal i ++ bytes ")\n")
+formText announce = bytes "(announce)\n"
+
+-- "numbers are decimal, one to five digits"
+abbrev pub Small : ℕ → Type 0
+Small k = k ≤ 99999
+
+-- "lists ascend without repeats": each of `low` or more, and more than the one before it
+abbrev pub Ascending : ℕ → List ℕ → Type 0
+Ascending low [] = Unit {0}
+Ascending low (k ∷ ks) = (low ≤ k) × Small k × Ascending (k + 1) ks
+
+abbrev pub SmallForm : Form → Type 0
+SmallForm (bareRing n) = Small n
+SmallForm (ringWith n active black) = Small n × Ascending 0 active × Ascending 0 black
+SmallForm (treeOf n root) = Small n × Small root
+SmallForm (send i j) = Small i × Small j
+SmallForm (takeOne i) = Small i
+SmallForm (takeFrom i k) = Small i × Small k
+SmallForm (idle i) = Small i
+SmallForm probe = Unit {0}
+SmallForm (pass i) = Small i
+SmallForm (ack i) = Small i
+SmallForm (leave i) = Small i
+SmallForm announce = Unit {0}
+
+-- "at most 700 bytes with it" (byte 10)
+abbrev pub Valid : Form → Type 0
+Valid f = SmallForm f × (length (formText f) ≤ 700)
+
+-- the line l says the form f
+abbrev pub Says : List ℕ → Form → Type 0
+Says l f = (l ≡ formText f) × Valid f
+
+abbrev pub pickLine : Bool → List ℕ → List ℕ → List ℕ
+pickLine true a b = a
+pickLine false a b = b
+
+-- the first line of a text: up to its first byte 10 and with it, or the whole text where it has none
+unfoldable pub line : List ℕ → List ℕ
+line [] = []
+line (b ∷ l) = b ∷ pickLine (eqb b 10) [] (line l)
+
+-- the line of s that begins at `at` says f, and e is just past it
+abbrev pub SaysAt : List ℕ → ℕ → Form → ℕ → Type 0
+SaysAt s at f e = Says (line (drop at s)) f × (e ≡ at + length (formText f))
+
+-- the forms of the ring's steps, and of the tree's: "words of the other watch .. are 10"
+abbrev pub ringForm : RingStep → Form
+ringForm (ring.Send i j) = send i j
+ringForm (ring.Take i) = takeOne i
+ringForm (ring.Idle i) = idle i
+ringForm ring.Probe = probe
+ringForm (ring.Pass i) = pass i
+ringForm ring.Announce = announce
+
+abbrev pub treeForm : TreeStep → Form
+treeForm (tree.Send i j) = send i j
+treeForm (tree.Take i k) = takeFrom i k
+treeForm (tree.Idle i) = idle i
+treeForm (tree.Ack i) = ack i
+treeForm (tree.Leave i) = leave i
+treeForm tree.Announce = announce
