@@ -1,0 +1,51 @@
+// Document 01, "Runs to check", by calls: a sound state with 999,999 accepted sends. One more is accepted, the next is 9, and takes
+// still pass. Each line is the number of an answer, 0 where the step is accepted; then the acknowledgements under way.
+use libc::STDOUT_FILENO;
+use tree::Stepped;
+use tree::Tree;
+
+// Two nodes: node 0, the root, is active and sent 999,999 messages, all of them in transit to node 1.
+fn busy() -> Tree {
+    let mut active = [false; 16];
+    active[0] = true;
+    let mut engager = [16u8; 16];
+    engager[0] = 0;
+    let mut unacked = [0u32; 16];
+    unacked[0] = 999999;
+    let mut transit = [0u32; 256];
+    transit[1] = 999999;
+    Tree {
+        n: 2,
+        root: 0,
+        active,
+        engager,
+        unacked,
+        transit,
+        acks: [0; 16],
+        sends: 999999,
+        closed: false,
+    }
+}
+
+fn line(n: u64) {
+    io::print_decimal(STDOUT_FILENO, n);
+    io::write_all(STDOUT_FILENO, b"\n");
+}
+
+fn told(s: Stepped) -> Tree {
+    let verdict = s.verdict;
+    line(refusal::code(verdict) as u64);
+    let tree = s.tree;
+    tree
+}
+
+fn main() {
+    let first = told(busy().send(0, 1));
+    let second = told(first.send(0, 1));
+    let third = told(second.take(1, 0));
+    let fourth = told(third.send(1, 0));
+    let fifth = told(fourth.take(1, 0));
+    let last = told(fifth.ack(0));
+    line(fifth.acks_in_transit());
+    line(last.acks_in_transit());
+}
