@@ -1,0 +1,89 @@
+-- The length of the text of a tree, and the most that n nodes take. Assumes nothing.
+use Prim.Native.Nat.{_+_, _-_, _<_, _≤_, suc, zero, ℕ}
+use borrow.Author.Tests.{eq-eqb, ne-eqb}
+use lib.Dec.{T, eqb}
+use lib.ListN.{getD, length, length-append}
+use mathlib.Core.Bool.{Bool, cond, false, true}
+use mathlib.Core.List.{List}
+use mathlib.Core.Logic.{_≢_}
+use mathlib.Core.Path.{_∙_, _≡_, ap, refl, sym}
+use native.Mathlib.Nat.{add-suc, add-zero}
+use native.Mathlib.Omega.{arith}
+use Rattle.decimal.specs.Text.{decimal, digits}
+use Rattle.laws.proofs.Sums.{sum-le, sum-same}
+use Rattle.laws.specs.Sums.{sumTo}
+use Rattle.tree_text.proofs.Lists.{alone-places, list-length, root-share}
+use Rattle.tree_text.proofs.Printed.{node-next}
+use Rattle.tree_text.proofs.Trees.{tree-lists}
+use Rattle.tree_text.specs.Text.{lengthOf, longest, share, textOf}
+use Rattle.tree_text.specs.Theorems.{EngagementTree, LengthKnown}
+
+full : ℕ → ℕ
+full i = 3 + length (decimal i)
+
+module _ (n : ℕ) (e : List ℕ) (root : ℕ) (T : EngagementTree n e root) where
+  r16 : root < 16
+  r16 = omega (arith, T .root-in, T .nodes)
+
+  -- one more than the text, for the root has no space before it
+  shares : length (textOf e root) + 1 ≡ sumTo 16 (share e)
+  shares =
+      rw (node-next 15 e root)
+      (simp length-append
+      (omega (
+        arith,
+        list-length (T .nodes) r16 (alone-places root) (tree-lists n e root T),
+        root-share root r16,
+      )))
+
+  pub tree-length : length (textOf e root) ≡ lengthOf e
+  unfolding lengthOf
+  tree-length = omega (arith, shares)
+
+  -- places from n on have no share
+  none-past : (m : ℕ) → n + m ≤ 16 → sumTo (n + m) (share e) ≡ sumTo n (share e)
+  unfolding sumTo share
+  none-past zero h = ap (λ (x : ℕ). sumTo x (share e)) (add-zero n)
+  none-past (suc m) h =
+      let none-at : share e (n + m) ≡ 0 = rw (eq-eqb _ _ (T .unused (n + m) (omega arith) (omega arith))) in
+      ap (λ (x : ℕ). sumTo x (share e)) (add-suc n m) ∙ omega (arith, none-past m (omega arith), none-at)
+
+  below : sumTo 16 (share e) ≡ sumTo n (share e)
+  below =
+      let p : n + (16 - n) ≡ 16 = omega (arith, T .nodes) in
+      ap (λ (x : ℕ). sumTo x (share e)) (sym p) ∙ none-past (16 - n) (omega (arith, T .nodes))
+
+  at-most : (i : ℕ) → share e i ≤ full i
+  unfolding share full
+  at-most i = by (eqb (getD e i 16) 16)
+    where
+      by : (b : Bool) → cond b 0 (3 + length (decimal i)) ≤ 3 + length (decimal i)
+      by true = omega arith
+      by false = omega arith
+
+  pub tree-bound : length (textOf e root) ≤ longest n
+  unfolding longest full
+  tree-bound = omega (arith, shares, below, sum-le n (share e) full (λ j _. at-most j))
+
+  pub tree-full : ((i : ℕ) → i < n → getD e i 16 ≢ 16) → length (textOf e root) ≡ longest n
+  unfolding longest full share
+  tree-full h =
+      omega (arith, shares, below, sum-same n (share e) full (λ j l. rw (ne-eqb (getD e j 16) 16 (h j l))))
+
+grows : (n m : ℕ) → sumTo n full ≤ sumTo (n + m) full
+unfolding sumTo
+grows n zero = let p : n + 0 ≡ n = add-zero n in omega (arith, ap (λ (x : ℕ). sumTo x full) p)
+grows n (suc m) = omega (arith, ap (λ (x : ℕ). sumTo x full) (add-suc n m), grows n m)
+
+seventy : sumTo 16 full ≡ 70
+unfolding sumTo full decimal digits
+seventy = refl
+
+pub longest-most : (n : ℕ) → n ≤ 16 → longest n ≤ 69
+unfolding longest full
+longest-most n h =
+    let p : n + (16 - n) ≡ 16 = omega arith in
+    omega (arith, grows n (16 - n), ap (λ (x : ℕ). sumTo x full) p, seventy)
+
+pub length-known : LengthKnown
+length-known = record { exact = tree-length; bound = tree-bound; most = longest-most; met = tree-full }

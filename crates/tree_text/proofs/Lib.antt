@@ -1,0 +1,12 @@
+pub mod Printed
+pub mod Cases
+pub mod Lists
+pub mod Texts
+pub mod Trees
+pub mod Steps
+pub mod Taken
+pub mod Given
+pub mod Depth
+pub mod Theorems
+pub mod Lengths
+pub mod Answers

@@ -1,0 +1,5 @@
+pub mod Text
+pub mod Write
+pub mod Read
+pub mod Theorems
+pub mod Cases

@@ -1,0 +1,24 @@
+// The text of the engagement tree: definitions in specs/, their theorems in proofs/. This file declares what the writer and the reader answer.
+use refusal::Refusal;
+use refusal::Verdict;
+
+// The length of the text that was written, or why none was.
+pub enum Written {
+    Length(usize),
+    NotWritten(Refusal),
+}
+
+// A reading under way: the engagers so far, the index of the next byte, the node entered or closed last.
+pub struct Reading {
+    pub verdict: Verdict,
+    pub engager: [u8; 16],
+    pub at: usize,
+    pub node: usize,
+}
+
+// What was read; where it is refused, no engagers and no root, each 16.
+pub struct Found {
+    pub verdict: Verdict,
+    pub engager: [u8; 16],
+    pub root: usize,
+}
