@@ -1,13 +1,18 @@
-// What other languages call: a ring lent field by field, stepped or driven in place.
+// What other languages call: a ring lent field by field, stepped or driven in place; the text of a tree lent so, written and read.
 use ring::Ring;
 use ring_rules::Reason;
+use tree::Tree;
+use tree_text::Written;
 ghost use mathlib.Core.Path.{_≡_};
 ghost use Rattle.refusal.specs.Table.{codeOf};
 ghost use Rattle.ring_rules.specs.Soundness.{soundTest};
 ghost use Rattle.ring_rules.specs.Answers.{stepOf};
 ghost use Rattle.ring_rules.specs.Driver.{driveOf};
 ghost use Rattle.ring.specs.View.{state};
+ghost use Rattle.tree_text.specs.Read.{readOf};
+ghost use Rattle.tree_text.specs.Write.{writtenOf, bufferOf};
 ghost use Rattle.exports.specs.Lent.{lent, reasonOf};
+ghost use Rattle.exports.specs.LentTree.{lentTree, writtenNumber, writtenLength};
 
 // The ring that lies in lent fields.
 fn gathered(
@@ -180,4 +185,71 @@ pub extern "C" fn ring_drive(
     *black = next.black;
     *moves = made;
     reason_number(reason)
+}
+
+// The number of the writer's answer, 0 where the text is written.
+fn written_number(w: Written) -> u8
+    ensures { λ r. ⌜ r ≡ writtenNumber w ⌝ }
+{
+    match w {
+        Written::Length(_) => 0,
+        Written::NotWritten(e) => refusal::number(e),
+    }
+}
+
+fn written_length(w: Written) -> usize
+    ensures { λ r. ⌜ r ≡ writtenLength w ⌝ }
+{
+    match w {
+        Written::Length(n) => n,
+        Written::NotWritten(_) => 0,
+    }
+}
+
+// The text of a tree in the buffer: the number of the answer, and in `length` how long it is.
+#[no_mangle]
+pub extern "C" fn tree_write(
+    n: usize,
+    root: usize,
+    active: &[bool; 16],
+    engager: &[u8; 16],
+    unacked: &[u32; 16],
+    transit: &[u32; 256],
+    acks: &[u32; 16],
+    sends: u32,
+    closed: bool,
+    buf: &mut [u8],
+    length: &mut usize,
+) -> u8
+    ensures { λ r. ⌜ (r ≡ writtenNumber (writtenOf (lentTree n root (now (active .entry)) (now (engager .entry)) (now (unacked .entry)) (now (transit .entry)) (now (acks .entry)) sends closed) (now (buf .entry))))
+        × (now (length .exit) ≡ writtenLength (writtenOf (lentTree n root (now (active .entry)) (now (engager .entry)) (now (unacked .entry)) (now (transit .entry)) (now (acks .entry)) sends closed) (now (buf .entry))))
+        × (now (buf .exit) ≡ bufferOf (lentTree n root (now (active .entry)) (now (engager .entry)) (now (unacked .entry)) (now (transit .entry)) (now (acks .entry)) sends closed) (now (buf .entry))) ⌝ }
+{
+    let tree = Tree {
+        n,
+        root,
+        active: *active,
+        engager: *engager,
+        unacked: *unacked,
+        transit: *transit,
+        acks: *acks,
+        sends,
+        closed,
+    };
+    let w = tree_writer::write(tree, buf);
+    *length = written_length(w);
+    written_number(w)
+}
+
+// A tree's text read: the number of the answer; the engagers and the root where it is accepted.
+#[no_mangle]
+pub extern "C" fn tree_read(n: usize, s: &[u8], engager: &mut [u8; 16], root: &mut usize) -> u8
+    ensures { λ r. ⌜ (r ≡ codeOf (readOf n (now (s .entry)) .verdict)) × (now (engager .exit) ≡ readOf n (now (s .entry)) .engager) × (now (root .exit) ≡ readOf n (now (s .entry)) .root) ⌝ }
+{
+    let f = tree_reader::read(n, s);
+    let verdict = f.verdict;
+    let e = f.engager;
+    *engager = e;
+    *root = f.root;
+    refusal::code(verdict)
 }

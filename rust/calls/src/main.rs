@@ -1,7 +1,8 @@
-//! Compares the proved ring, called through a static library, with the second implementation: steps of whole runs, wild states, the
-//! driver; and walks the states of EWD998 for N = 3 with the proved step, against document 001's table.
+//! Compares the proved functions, called through a static library, with the second implementation: the ring's steps of whole runs, wild
+//! states and the driver; the tree's text, written, read back and damaged; and walks the states of EWD998 for N = 3 with the proved step, against document 001's table.
 
 mod proved;
+mod texts;
 
 use second::generate::Rng;
 use second::request::Request;
@@ -21,6 +22,7 @@ fn main() {
         "same: {} steps ({} accepted), {} wild states ({} sound), {} drives",
         tally.steps, tally.accepted, tally.wild, tally.sound, tally.drives
     );
+    texts::compare(seed);
     published_table();
 }
 
@@ -160,7 +162,7 @@ fn reason_number(reason: Reason) -> u8 {
     }
 }
 
-fn fail(seed: u64, what: &str) -> ! {
+pub fn fail(seed: u64, what: &str) -> ! {
     println!("DIFFERENT with seed {seed}: {what}");
     exit(1);
 }

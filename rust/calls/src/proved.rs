@@ -2,6 +2,7 @@
 
 use second::request::Request;
 use second::ring::Ring;
+use second::tree::Tree;
 
 extern "C" {
     fn ring_step(
@@ -46,6 +47,29 @@ extern "C" {
         closed: bool,
         limit: u32,
         moves: *mut u32,
+    ) -> u8;
+
+    fn tree_write(
+        n: usize,
+        root: usize,
+        active: *const bool,
+        engager: *const u8,
+        unacked: *const u32,
+        transit: *const u32,
+        acks: *const u32,
+        sends: u32,
+        closed: bool,
+        buffer: *mut u8,
+        room: usize,
+        length: *mut usize,
+    ) -> u8;
+
+    fn tree_read(
+        n: usize,
+        text: *const u8,
+        length: usize,
+        engager: *mut u8,
+        root: *mut usize,
     ) -> u8;
 }
 
@@ -109,4 +133,46 @@ pub fn drive(ring: &mut Ring, limit: u32) -> (u8, u32) {
         )
     };
     (reason, moves)
+}
+
+/// The number of the writer's answer, 0 where the text is written, and its length.
+pub fn write(tree: &Tree, buffer: &mut [u8]) -> (u8, usize) {
+    let engager = tree
+        .engager
+        .map(|e| u8::try_from(e).expect("an engager of one byte"));
+    let transit = tree.in_transit.concat();
+    let mut length = 0;
+    let told = unsafe {
+        tree_write(
+            tree.n,
+            tree.root,
+            tree.active.as_ptr(),
+            engager.as_ptr(),
+            tree.unacked.as_ptr(),
+            transit.as_ptr(),
+            tree.acks.as_ptr(),
+            tree.sends,
+            tree.closed,
+            buffer.as_mut_ptr(),
+            buffer.len(),
+            &mut length,
+        )
+    };
+    (told, length)
+}
+
+/// The number of the reader's answer, the engagers and the root.
+pub fn read(n: usize, text: &[u8]) -> (u8, [u8; 16], usize) {
+    let mut engager = [0; 16];
+    let mut root = 0;
+    let told = unsafe {
+        tree_read(
+            n,
+            text.as_ptr(),
+            text.len(),
+            engager.as_mut_ptr(),
+            &mut root,
+        )
+    };
+    (told, engager, root)
 }

@@ -1,0 +1,25 @@
+use borrow.Author.Needs.{needs}
+use mathlib.Core.Path.{_∙_, ap}
+use Rattle.exports.specs.LentTree.{writtenLength, writtenNumber}
+use Rattle.exports.proofs.tree_write.Statement.{statement}
+use Rattle.exports.proofs.tree_write.Tie as tie
+
+write-requires : tie.Need-write-requires
+write-requires c κs = search needs
+
+written-length-requires : tie.Need-written-length-requires
+written-length-requires c κs = search needs
+
+written-number-requires : tie.Need-written-number-requires
+written-number-requires c κs = search needs
+
+same-length : tie.Need-same-length
+same-length c = search needs
+
+returns : tie.Need-returns
+returns c = (c .written-number .ensures ∙ ap writtenNumber (c .before .before .before .before .write .ensures .0), c .before .written-length .ensures ∙ ap writtenLength (c .before .before .before .before .write .ensures .0), c .before .before .before .before .write .ensures .1)
+
+pub tree-write-spec : {M : Type 1} → statement M
+tree-write-spec =
+    tie.close
+    (tie.spec write-requires written-length-requires written-number-requires same-length returns)

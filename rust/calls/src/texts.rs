@@ -1,0 +1,101 @@
+//! The text of the tree: random trees out and back, short buffers, unsound trees, and damaged texts.
+
+use crate::{fail, proved};
+use second::generate::Rng;
+use second::request::Request;
+use second::text;
+use second::tree::{Tree, MAX_NODES};
+
+pub fn compare(seed: u64) {
+    let mut random = Rng::new(seed);
+    let (mut written, mut damaged, mut accepted) = (0, 0, 0);
+    for _ in 0..20_000 {
+        let tree = grown(&mut random);
+        same_text(seed, &tree, &mut random);
+        written += 1;
+        let mut buffer = [0; 80];
+        let Ok(length) = text::write(&tree, &mut buffer) else {
+            continue;
+        };
+        same_reading(seed, tree.n, &buffer[..length]);
+        for _ in 0..5 {
+            let (n, text) = damage(tree.n, &buffer[..length], &mut random);
+            accepted += usize::from(same_reading(seed, n, &text));
+            damaged += 1;
+        }
+    }
+    println!("same: {written} texts of trees, {damaged} damaged texts ({accepted} still a tree's)");
+}
+
+/// A tree after random steps, now and then spoiled.
+fn grown(random: &mut Rng) -> Tree {
+    let n = 1 + random.below(MAX_NODES);
+    let mut tree = Tree::start(n, random.below(n)).expect("a start in range");
+    for _ in 0..random.below(120) {
+        let kind = random.pick(&[1, 1, 1, 2, 2, 2, 2, 3, 4, 5]);
+        let _ = tree.step(Request::new(kind, random.below(n), random.below(n)));
+    }
+    if random.chance(10) {
+        tree.engager[random.below(MAX_NODES)] = random.below(MAX_NODES + 1);
+    }
+    tree
+}
+
+fn same_text(seed: u64, tree: &Tree, random: &mut Rng) {
+    let room = random.pick(&[0, 3, 10, 40, 69, 80]);
+    let mut ours: Vec<u8> = (0..room).map(|_| random.below(256) as u8).collect();
+    let mut theirs = ours.clone();
+    let expected = text::write(tree, &mut ours)
+        .map_or_else(|refusal| (refusal.number() as u8, 0), |length| (0, length));
+    let told = proved::write(tree, &mut theirs);
+    if (told, &theirs) != (expected, &ours) {
+        fail(
+            seed,
+            &format!("writing told {told:?}, expected {expected:?}, of {tree:?}"),
+        );
+    }
+}
+
+/// Whether the text is accepted.
+fn same_reading(seed: u64, n: usize, text: &[u8]) -> bool {
+    let (told, engager, root) = proved::read(n, text);
+    let same = match text::read(n, text) {
+        Ok(found) => told == 0 && root == found.root && engager.map(usize::from) == found.engager,
+        Err(refusal) => u32::from(told) == refusal.number(),
+    };
+    if !same {
+        fail(
+            seed,
+            &format!(
+                "reading told {told} of {n} nodes and {:?}",
+                String::from_utf8_lossy(text)
+            ),
+        );
+    }
+    told == 0
+}
+
+/// The text with a byte or two changed, dropped, doubled or added, or another number of nodes.
+fn damage(n: usize, text: &[u8], random: &mut Rng) -> (usize, Vec<u8>) {
+    let mut text = text.to_vec();
+    let byte = random.pick(b"() 0123456789\n\0x");
+    for _ in 0..1 + random.below(2) {
+        if text.is_empty() {
+            break;
+        }
+        let at = random.below(text.len());
+        match random.below(5) {
+            0 => text[at] = byte,
+            1 => drop(text.remove(at)),
+            2 => text.insert(at, text[at]),
+            3 => text.insert(at, byte),
+            _ => text.push(byte),
+        }
+    }
+    let n = if random.chance(20) {
+        random.pick(&[0, 1, 2, 15, 16, 17, usize::MAX])
+    } else {
+        n
+    };
+    (n, text)
+}
