@@ -41,7 +41,8 @@ pub struct Driven {
     pub ring: Ring,
 }
 
-fn rest_of(ring: Ring) -> Rest
+// A ring taken apart: what of it is not a column; and put together again.
+pub fn rest_of(ring: Ring) -> Rest
     ensures { λ r. ⌜ whole r (ring .active) (ring .color) (ring .sent) (ring .received) (ring .pending) ≡ state ring ⌝ }
 {
     Rest {
@@ -53,7 +54,7 @@ fn rest_of(ring: Ring) -> Rest
     }
 }
 
-fn gathered(
+pub fn gathered(
     r: Rest,
     active: [bool; 96],
     color: [u8; 12],

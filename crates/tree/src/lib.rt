@@ -30,7 +30,8 @@ pub struct Stepped {
     pub tree: Tree,
 }
 
-fn rest_of(tree: Tree) -> Rest
+// A tree taken apart: what of it is not a column; and put together again.
+pub fn rest_of(tree: Tree) -> Rest
     ensures { λ r. ⌜ whole r (tree .active) (tree .engager) (tree .unacked) (tree .transit) (tree .acks) ≡ state tree ⌝ }
 {
     Rest {
@@ -41,7 +42,7 @@ fn rest_of(tree: Tree) -> Rest
     }
 }
 
-fn gathered(
+pub fn gathered(
     r: Rest,
     active: [bool; 16],
     engager: [u8; 16],

@@ -1,6 +1,5 @@
 -- No text meets the bound on the depth: each node that is entered is one fewer that can be. Assumes nothing.
 use Prim.Native.Nat.{_+_, _<_, _≤_, suc, zero, ℕ}
-use borrow.Author.Count.{falls}
 use borrow.Author.Tests.{eq-eqb, ne-eqb}
 use lib.Dec.{T, eqb}
 use lib.ListN.{getD, length, length-set}

@@ -2,8 +2,6 @@
 use Prim.Native.Nat.{_+_, _<_, _≤_, min, suc, zero, ℕ}
 use borrow.Author.Tests.{ne-eqb}
 use lib.Dec.{eqb}
-use lib.Ieee.{size}
-use lib.Ieee.Positive.{num}
 use lib.ListN.{drop, getD, length, length-append, length-set, set}
 use mathlib.Core.Bool.{cond, false}
 use mathlib.Core.List.{List, [], _++_, _∷_, append-assoc, tail}

@@ -10,3 +10,4 @@ pub mod Depth
 pub mod Theorems
 pub mod Lengths
 pub mod Answers
+pub mod Faults

@@ -2,7 +2,6 @@
 use Prim.Native.Nat.{_+_, _<_, _≤_, suc, zero, ℕ}
 use borrow.Author.Tests.{ne-eqb}
 use lib.Dec.{T, eqb}
-use lib.Ieee.Positive.{num}
 use lib.ListN.{drop, getD, set}
 use mathlib.Core.Bool.{cond}
 use mathlib.Core.List.{List, [], _++_, _∷_, append-assoc}

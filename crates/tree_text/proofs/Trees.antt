@@ -1,6 +1,5 @@
 -- The text of a tree is a list of its nodes: with them the tree comes about, node by node. Assumes nothing.
 use Prim.Native.Nat.{_+_, _<_, _≤_, suc, zero, ℕ}
-use borrow.Fn.PlainCycle.{is}
 use lib.Dec.{T}
 use lib.ListN.{List·getD-eq-default, getD, length, length-set, set}
 use lib.Seq.{ext-getD, getD-set-other, getD-set-same}
@@ -12,7 +11,6 @@ use native.Mathlib.Decide.{decLt, ℕ-discrete}
 use native.Mathlib.Omega.{arith}
 use Rattle.decimal.specs.Text.{decimal}
 use Rattle.laws.proofs.Tests.{false-true, split}
-use Rattle.tree_rules.proofs.Sums.{no-child}
 use Rattle.tree_rules.specs.State.{climb}
 use Rattle.tree_text.proofs.Lists.{Lists, New, Parts, alone, alone-places, few-left, free, free-before, free-falls, free-set, free-some, keeps, lower, mid-new, more, none, nothing-new, others, parent, parts, root-there}
 use Rattle.tree_text.proofs.Printed.{list-end, list-other, list-under, node-next}
@@ -233,19 +231,30 @@ module _ (n : ℕ) (E : List ℕ) (root : ℕ) (T : EngagementTree n E root) whe
   only-root : (d : ℕ) → getD (alone root) d 16 ≢ 16 → d ≡ root
   only-root d h = elim (ℕ-discrete d root) [ yes p ↦ p | no q ↦ absurd (h (others root d q)) ]
 
+  root-set : getD (alone root) root 16 ≢ 16
+  root-set q = omega (arith, r16, sym (root-there root r16) ∙ q)
+
+  -- of the root alone
   alone-part : Part (alone root)
-  alone-part = record {
-    places = alone-places root;
-    same = λ d h. let p = only-root d h in ap (λ (x : ℕ). getD (alone root) x 16) p ∙ ((root-there root r16) ∙ sym (T .root-own)) ∙ ap (λ (x : ℕ). getD E x 16) (sym p);
-    up = λ d h. let p = only-root d h in λ q. omega (arith, r16, sym (root-there root r16) ∙ ap (λ (x : ℕ). getD (alone root) x 16) (sym (T .root-own) ∙ ap (λ (x : ℕ). getD E x 16) (sym p)) ∙ q);
-  }
+  alone-part = record { places = alone-places root; same = same; up = up }
+    where
+      same : (d : ℕ) → getD (alone root) d 16 ≢ 16 → getD (alone root) d 16 ≡ getD E d 16
+      same d h =
+          let p = only-root d h in
+          ap (λ (x : ℕ). getD (alone root) x 16) p
+          ∙ (root-there root r16 ∙ sym (T .root-own) ∙ ap (λ (x : ℕ). getD E x 16) (sym p))
+
+      up : (d : ℕ) → getD (alone root) d 16 ≢ 16 → getD (alone root) (getD E d 16) 16 ≢ 16
+      up d h q =
+          let p : getD E d 16 ≡ root = ap (λ (x : ℕ). getD E x 16) (only-root d h) ∙ T .root-own in
+          root-set (ap (λ (x : ℕ). getD (alone root) x 16) (sym p) ∙ q)
 
   whole : Runs 15 root 0 (alone root)
-  whole = run 15 root (T .root-in) (alone root) (alone-part, (λ q. omega (arith, r16, sym (root-there root r16) ∙ q)), (λ d _ _ ne. others root d ne), few-left root r16)
+  whole = run 15 root (T .root-in) (alone root) (alone-part, root-set, (λ d _ _ ne. others root d ne), few-left root r16)
 
   root-in-it : getD (whole .last) root 16 ≢ 16
   root-in-it q =
-      let p = keeps (whole .reads) root (λ z. omega (arith, r16, sym (root-there root r16) ∙ z)) ∙ (root-there root r16) in
+      let p = keeps (whole .reads) root root-set ∙ root-there root r16 in
       omega (arith, r16, sym p ∙ q)
 
   reached : (m d : ℕ) → climb E m d ≡ root → getD (whole .last) d 16 ≢ 16

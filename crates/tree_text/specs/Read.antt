@@ -2,7 +2,6 @@
 -- never met (`DepthEnough` of Theorems.antt).
 use Prim.Native.Nat.{_+_, suc, zero, ℕ}
 use lib.Dec.{eqb, leb, ltb}
-use lib.Ieee.{size}
 use lib.ListN.{getD, length, replicate, set}
 use mathlib.Core.Bool.{_&&_, cond, not}
 use mathlib.Core.List.{List, [], _∷_}

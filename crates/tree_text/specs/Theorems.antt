@@ -1,19 +1,21 @@
--- What is proved of the text; the proofs are in proofs/, put together in proofs/Theorems.antt.
-use Prim.Native.Nat.{_<_, _≤_, ℕ}
+-- What is proved of the text. Each proof stands in proofs/ under the lower-case name: `ReadBack` is `read-back`.
+use Prim.Native.Nat.{_+_, _<_, _≤_, ℕ}
 use lib.ListN.{getD, length, take}
 use mathlib.Core.List.{List}
 use mathlib.Core.Logic.{_↔_, _≢_, _⊎_}
 use mathlib.Core.Path.{_≡_}
+use Rattle.decimal.specs.Exact.{Stands}
 use Rattle.refusal.specs.Table.{FirstIs, NoneHolds, Row}
 use Rattle.refusal.specs.declared.Refusal.{Refusal}
-use Rattle.refusal.specs.declared.Refusal.the-variants.{NodeCount}
+use Rattle.refusal.specs.declared.Refusal.the-variants.{NodeCount, NotAForm, UnknownNode}
 use Rattle.refusal.specs.declared.Verdict.the-variants.{Accepted, Refused}
 use Rattle.tree_rules.specs.Soundness.{Sound}
 use Rattle.tree_rules.specs.State.{State, climb}
-use Rattle.tree_text.specs.Read.{fresh, nodeOf, nothing, readOf}
-use Rattle.tree_text.specs.Text.{lengthOf, longest, textOf}
+use Rattle.tree_text.specs.Read.{fresh, nodeOf, nothing, readOf, refused}
+use Rattle.tree_text.specs.Text.{lengthOf, longest, opening, textOf}
 use Rattle.tree_text.specs.Write.{bufferOf, stateText, writeTable, writeVerdict, writtenOf}
 use Rattle.tree_text.specs.declared.Found.{Found}
+use Rattle.tree_text.specs.declared.Reading.{Reading}
 use Rattle.tree_text.specs.declared.Written.the-variants.{Length, NotWritten}
 
 -- a tree of n nodes: every engaged node's chain of engagers reaches the root
@@ -43,6 +45,25 @@ pub record ReadExact : Type 0 where
 pub record NodeCountFirst : Type 0 where
   pub few : (s : List ℕ) → readOf 0 s ≡ nothing NodeCount
   pub many : (n : ℕ) (s : List ℕ) → 16 < n → readOf n s ≡ nothing NodeCount
+
+-- "where a number belongs": what follows a node's opening bracket is judged before anything that stands inside the node, whatever comes
+-- after it. `Stands s at v e` says that the text of the number v, however long, stands in s from `at` to `e`, its last digit before e.
+pub record NumberFirst : Type 0 where
+  -- a number of n or more: 6
+  pub large :
+      (left : ℕ) (s : List ℕ) (n : ℕ) (r : Reading) (by low v e : ℕ) → n ≤ 16 → getD s (r .at) 0 ≡ opening
+      → Stands s (r .at + 1) v e → n ≤ v → nodeOf left s n r by low ≡ refused r UnknownNode
+  -- another one, out of order or repeated: 10
+  pub not-now :
+      (left : ℕ) (s : List ℕ) (n : ℕ) (r : Reading) (by low v e : ℕ) → n ≤ 16 → getD s (r .at) 0 ≡ opening
+      → Stands s (r .at + 1) v e → v < n → (v < low) ⊎ (getD (r .engager) v 16 ≢ 16) → nodeOf left s n r by low ≡ refused r NotAForm
+  -- no number, as with a leading zero: 10
+  pub none :
+      (left : ℕ) (s : List ℕ) (n : ℕ) (r : Reading) (by low : ℕ) → getD s (r .at) 0 ≡ opening
+      → ((v e : ℕ) → Stands s (r .at + 1) v e → ⊥) → nodeOf left s n r by low ≡ refused r NotAForm
+  -- no opening bracket: 10
+  pub no-bracket :
+      (left : ℕ) (s : List ℕ) (n : ℕ) (r : Reading) (by low : ℕ) → getD s (r .at) 0 ≢ opening → nodeOf left s n r by low ≡ refused r NotAForm
 
 -- No text meets the bound on the reader's depth: with any other the answer is the same.
 pub record DepthEnough : Type 0 where

@@ -19,10 +19,14 @@ returns c =
     c .refuse .ensures ∙ sym (close-no (a .s .now) (a .k) (a .m) (λ p. c .before .if1 .taken (c .before .before .byte-at .ensures ∙ p)))
 
 add-t10 : tie.Need-add-t10
-add-t10 c = let a = c .before .before .before .before .args in omega (arith, in-text (a .s .now) (a .m .at) (omega (arith, c .before .before .byte-at .ensures, c .before .if1 .left)))
+add-t10 c =
+    let a = c .before .before .before .before .args in
+    omega (arith, in-text (a .s .now) (a .m .at) (omega (arith, c .before .before .byte-at .ensures, c .before .if1 .left)))
 
 returns-2 : tie.Need-returns-2
-returns-2 c = let a = c .before .before .before .before .args in sym (close-yes (a .s .now) (a .k) (a .m) (sym (c .before .before .byte-at .ensures) ∙ c .before .if1 .left))
+returns-2 c =
+    let a = c .before .before .before .before .args in
+    sym (close-yes (a .s .now) (a .k) (a .m) (sym (c .before .before .byte-at .ensures) ∙ c .before .if1 .left))
 
 pub close-spec : {M : Type 1} → statement M
 close-spec = tie.close (tie.spec byte-at-requires refuse-requires returns add-t10 returns-2)

@@ -35,7 +35,9 @@ returns-3 : tie.Need-returns-3
 returns-3 c =
     let l : length (c .before .before .before .before .before .args .r .engager) ≡ 16 = search needs in
     let a = c .before .before .before .before .before .args in
-    c .refuse3 .ensures ∙ sym (enter-again (a .n) (a .r) (a .by) (a .low) (a .k) (a .at) (omega arith) (omega arith) (λ p. c .before .if3 .taken (any-default (a .r .engager) (a .k) 0 16 (search needs) ∙ p)))
+    let same = any-default (a .r .engager) (a .k) 0 16 (search needs) in
+    c .refuse3 .ensures
+    ∙ sym (enter-again (a .n) (a .r) (a .by) (a .low) (a .k) (a .at) (omega arith) (omega arith) (λ p. c .before .if3 .taken (same ∙ p)))
 
 place-requires : tie.Need-place-requires
 place-requires c κs = search needs
@@ -44,7 +46,9 @@ returns-4 : tie.Need-returns-4
 returns-4 c =
     let l : length (c .before .before .before .before .before .args .r .engager) ≡ 16 = search needs in
     let a = c .before .before .before .before .before .args in
-    c .place .ensures ∙ sym (enter-new (a .n) (a .r) (a .by) (a .low) (a .k) (a .at) (omega arith) (omega arith) (sym (any-default (a .r .engager) (a .k) 0 16 (search needs)) ∙ c .before .if3 .left))
+    let same = any-default (a .r .engager) (a .k) 0 16 (search needs) in
+    c .place .ensures
+    ∙ sym (enter-new (a .n) (a .r) (a .by) (a .low) (a .k) (a .at) (omega arith) (omega arith) (sym same ∙ c .before .if3 .left))
 
 pub judge-spec : {M : Type 1} → statement M
 judge-spec =

@@ -66,19 +66,22 @@ write-list-is-under-requires t c κs = omega arith
 write-list-slice-write-buf : (t : ℕ) → write-list-lts.Need-slice-write-buf (list-calls t) (write-list-at t) write-list.Post
 write-list-slice-write-buf t c =
     let a = c .before .before .before .before .args in
-    omega (arith, simp length-append at (ap length (list-under (a .left) (a .e .now) (a .k) (a .from) (c .before .before .if1 .left) (sym (c .before .is-under .ensures) ∙ c .if2 .taken))))
+    let text = list-under (a .left) (a .e .now) (a .k) (a .from) (c .before .before .if1 .left) (sym (c .before .is-under .ensures) ∙ c .if2 .taken) in
+    omega (arith, simp length-append at (ap length text))
 
 write-list-add-write-node : (t : ℕ) → write-list-lts.Need-add-write-node (list-calls t) (write-list-at t) write-list.Post
 write-list-add-write-node t c =
     let h = c .before in
     let a = h .before .before .before .before .args in
-    omega (arith, simp length-append at (ap length (list-under (a .left) (a .e .now) (a .k) (a .from) (h .before .before .if1 .left) (sym (h .before .is-under .ensures) ∙ h .if2 .taken))))
+    let text = list-under (a .left) (a .e .now) (a .k) (a .from) (h .before .before .if1 .left) (sym (h .before .is-under .ensures) ∙ h .if2 .taken) in
+    omega (arith, simp length-append at (ap length text))
 
 write-list-write-node-requires : (t : ℕ) → write-list-lts.Need-write-node-requires (list-calls t) (write-list-at t) write-list.Post
 write-list-write-node-requires t c κs =
     let h = c .before in
     let a = h .before .before .before .before .args in
-    omega (arith, length-set (a .buf .now) (a .at) 32, simp length-append at (ap length (list-under (a .left) (a .e .now) (a .k) (a .from) (h .before .before .if1 .left) (sym (h .before .is-under .ensures) ∙ h .if2 .taken))))
+    let text = list-under (a .left) (a .e .now) (a .k) (a .from) (h .before .before .if1 .left) (sym (h .before .is-under .ensures) ∙ h .if2 .taken) in
+    omega (arith, length-set (a .buf .now) (a .at) 32, simp length-append at (ap length text))
 
 write-list-add-write-list : (t : ℕ) → write-list-lts.Need-add-write-list (list-calls t) (write-list-at t) write-list.Post
 write-list-add-write-list t c = omega arith
@@ -87,7 +90,8 @@ write-list-write-list-requires : (t : ℕ) → write-list-lts.Need-write-list-re
 write-list-write-list-requires t c κs =
     let h = c .before .before .before .before .before in
     let a = h .before .before .before .before .args in
-    omega (arith, length-set (a .buf .now) (a .at) 32, c .before .before .before .write-node .kept .0, simp length-append at (ap length (list-under (a .left) (a .e .now) (a .k) (a .from) (h .before .before .if1 .left) (sym (h .before .is-under .ensures) ∙ h .if2 .taken))))
+    let text = list-under (a .left) (a .e .now) (a .k) (a .from) (h .before .before .if1 .left) (sym (h .before .is-under .ensures) ∙ h .if2 .taken) in
+    omega (arith, length-set (a .buf .now) (a .at) 32, c .before .before .before .write-node .kept .0, simp length-append at (ap length text))
 
 write-list-same-length : (t : ℕ) → write-list-lts.Need-same-length (list-calls t) (write-list-at t) write-list.Post
 write-list-same-length t c = c .before .before .write-list .kept .0 ∙ (c .before .before .before .before .before .before .write-node .kept .0 ∙ simp length-set)
@@ -97,9 +101,10 @@ unfolding put
 write-list-returns-2 t c =
     let h = c .before .before .before .before .before .before .before .before in
     let a = h .before .before .before .before .args in
+    let text = list-under (a .left) (a .e .now) (a .k) (a .from) (h .before .before .if1 .left) (sym (h .before .is-under .ensures) ∙ h .if2 .taken) in
     let n = c .before .before .before .before .before .before .write-node .ensures in
     let l = c .before .before .write-list .ensures in
-    rw (list-under (a .left) (a .e .now) (a .k) (a .from) (h .before .before .if1 .left) (sym (h .before .is-under .ensures) ∙ h .if2 .taken))
+    rw text
     (simp length-append (omega arith), l .1 ∙ put-then (nodeText (a .left) (a .e .now) (a .from)) _ (set (a .buf .now) (a .at) 32) (a .at + 1) (n .0) (n .1))
 
 write-list-add-write-list-2 : (t : ℕ) → write-list-lts.Need-add-write-list-2 (list-calls t) (write-list-at t) write-list.Post
@@ -109,7 +114,8 @@ write-list-write-list-requires-2 : (t : ℕ) → write-list-lts.Need-write-list-
 write-list-write-list-requires-2 t c κs =
     let h = c .before in
     let a = h .before .before .before .before .args in
-    omega (arith, ap length (list-other (a .left) (a .e .now) (a .k) (a .from) (h .before .before .if1 .left) (sym (h .before .is-under .ensures) ∙ h .if2 .left)))
+    let text = list-other (a .left) (a .e .now) (a .k) (a .from) (h .before .before .if1 .left) (sym (h .before .is-under .ensures) ∙ h .if2 .left) in
+    omega (arith, ap length text)
 
 write-list-same-length-2 : (t : ℕ) → write-list-lts.Need-same-length-2 (list-calls t) (write-list-at t) write-list.Post
 write-list-same-length-2 t c = c .before .before .write-list2 .kept .0
@@ -118,7 +124,8 @@ write-list-returns-3 : (t : ℕ) → write-list-lts.Need-returns-3 (list-calls t
 write-list-returns-3 t c =
     let h = c .before .before .before .before in
     let a = h .before .before .before .before .args in
-    rw (list-other (a .left) (a .e .now) (a .k) (a .from) (h .before .before .if1 .left) (sym (h .before .is-under .ensures) ∙ h .if2 .left)) (c .before .before .write-list2 .ensures)
+    let text = list-other (a .left) (a .e .now) (a .k) (a .from) (h .before .before .if1 .left) (sym (h .before .is-under .ensures) ∙ h .if2 .left) in
+    rw text (c .before .before .write-list2 .ensures)
 
 abbrev node-calls : ℕ → write-node-lts.Claims
 node-calls t = (
@@ -135,17 +142,20 @@ write-node-returns t c = rw (c .if1 .taken, node-none) (omega arith, refl)
 write-node-slice-write-buf : (t : ℕ) → write-node-lts.Need-slice-write-buf (node-calls t) (write-node-at t) write-node.Post
 write-node-slice-write-buf t c =
     let a = c .before .before .args in
-    omega (arith, simp length-append at (ap length (node-more (a .left) (a .e .now) (a .k) (c .if1 .left))))
+    let text = node-more (a .left) (a .e .now) (a .k) (c .if1 .left) in
+    omega (arith, simp length-append at (ap length text))
 
 write-node-add-put-decimal : (t : ℕ) → write-node-lts.Need-add-put-decimal (node-calls t) (write-node-at t) write-node.Post
 write-node-add-put-decimal t c =
     let a = c .before .before .before .args in
-    omega (arith, simp length-append at (ap length (node-more (a .left) (a .e .now) (a .k) (c .before .if1 .left))))
+    let text = node-more (a .left) (a .e .now) (a .k) (c .before .if1 .left) in
+    omega (arith, simp length-append at (ap length text))
 
 write-node-put-decimal-requires : (t : ℕ) → write-node-lts.Need-put-decimal-requires (node-calls t) (write-node-at t) write-node.Post
 write-node-put-decimal-requires t c κs =
     let a = c .before .before .before .args in
-    omega (arith, length-set (a .buf .now) (a .at) 40, simp length-append at (ap length (node-more (a .left) (a .e .now) (a .k) (c .before .if1 .left))))
+    let text = node-more (a .left) (a .e .now) (a .k) (c .before .if1 .left) in
+    omega (arith, length-set (a .buf .now) (a .at) 40, simp length-append at (ap length text))
 
 write-node-sub-write-list : (t : ℕ) → write-node-lts.Need-sub-write-list (node-calls t) (write-node-at t) write-node.Post
 write-node-sub-write-list t c = omega arith
@@ -154,19 +164,22 @@ write-node-write-list-requires : (t : ℕ) → write-node-lts.Need-write-list-re
 write-node-write-list-requires t c κs =
     let s = c .before .before .before .before .before in
     let a = s .before .before .args in
-    omega (arith, length-set (a .buf .now) (a .at) 40, c .before .before .before .put-decimal .kept .0, simp length-append at (ap length (node-more (a .left) (a .e .now) (a .k) (s .if1 .left))))
+    let text = node-more (a .left) (a .e .now) (a .k) (s .if1 .left) in
+    omega (arith, length-set (a .buf .now) (a .at) 40, c .before .before .before .put-decimal .kept .0, simp length-append at (ap length text))
 
 write-node-slice-write-buf-2 : (t : ℕ) → write-node-lts.Need-slice-write-buf-2 (node-calls t) (write-node-at t) write-node.Post
 write-node-slice-write-buf-2 t c =
     let s = c .before .before .before .before .before .before .before .before in
     let a = s .before .before .args in
-    omega (arith, length-set (a .buf .now) (a .at) 40, c .before .before .before .before .before .before .put-decimal .kept .0, c .before .before .write-list .kept .0, simp length-append at (ap length (node-more (a .left) (a .e .now) (a .k) (s .if1 .left))))
+    let text = node-more (a .left) (a .e .now) (a .k) (s .if1 .left) in
+    omega (arith, length-set (a .buf .now) (a .at) 40, c .before .before .before .before .before .before .put-decimal .kept .0, c .before .before .write-list .kept .0, simp length-append at (ap length text))
 
 write-node-add-result : (t : ℕ) → write-node-lts.Need-add-result (node-calls t) (write-node-at t) write-node.Post
 write-node-add-result t c =
     let s = c .before .before .before .before .before .before .before .before in
     let a = s .before .before .args in
-    omega (arith, simp length-append at (ap length (node-more (a .left) (a .e .now) (a .k) (s .if1 .left))))
+    let text = node-more (a .left) (a .e .now) (a .k) (s .if1 .left) in
+    omega (arith, simp length-append at (ap length text))
 
 write-node-same-length : (t : ℕ) → write-node-lts.Need-same-length (node-calls t) (write-node-at t) write-node.Post
 write-node-same-length t c = simp length-set (c .before .before .write-list .kept .0 ∙ (c .before .before .before .before .before .before .put-decimal .kept .0 ∙ simp length-set))
@@ -176,9 +189,10 @@ unfolding put
 write-node-returns-2 t c =
     let s = c .before .before .before .before .before .before .before .before in
     let a = s .before .before .args in
+    let text = node-more (a .left) (a .e .now) (a .k) (s .if1 .left) in
     let d = c .before .before .before .before .before .before .put-decimal in
     let l = c .before .before .write-list in
-    rw (node-more (a .left) (a .e .now) (a .k) (s .if1 .left)) (
+    rw text (
       simp length-append (omega arith),
       put-then (listText (a .left - 1) (a .e .now) (a .k) 0) (41 ∷ []) (d .last .0) (d .result) (l .ensures .0) (l .ensures .1)
           ∙ put-then (decimal (a .k)) _ (set (a .buf .now) (a .at) 40) (a .at + 1) (d .ensures .0) (d .ensures .1),

@@ -42,7 +42,8 @@ returns-2 c =
 put-tree-requires : tie.Need-put-tree-requires
 put-tree-requires c κs =
     let t = state (c .before .before .before .before .before .before .before .before .before .args .tree) in
-    let h : soundTest t ≡ true = sym (c .before .before .before .before .before .before .before .is-sound .ensures) ∙ not-false _ (c .before .before .before .before .before .before .if1 .left) in
+    let i = c .before .before .before .before .before .before in
+    let h : soundTest t ≡ true = sym (i .before .is-sound .ensures) ∙ not-false _ (i .if1 .left) in
     let T = sound-tree t (sound-true t h) in
     let l = tree-length (t .n) (t .engager) (t .root) T in
     (T .places, omega (arith, T .root-in, T .nodes), omega (arith, l, c .before .before .before .text-length .ensures, c .before .before .if2 .left))
@@ -54,9 +55,11 @@ returns-3 : tie.Need-returns-3
 returns-3 c =
     let a = c .before .before .before .before .before .before .before .before .before .before .before .before .args in
     let t = state (a .tree) in
-    let h : soundTest t ≡ true = sym (c .before .before .before .before .before .before .before .before .before .before .is-sound .ensures) ∙ not-false _ (c .before .before .before .before .before .before .before .before .before .if1 .left) in
+    let i = c .before .before .before .before .before .before .before .before .before in
+    let h : soundTest t ≡ true = sym (i .before .is-sound .ensures) ∙ not-false _ (i .if1 .left) in
     let l = tree-length (t .n) (t .engager) (t .root) (sound-tree t (sound-true t h)) in
-    let room : length (stateText t) ≤ length (a .buf .now) = omega (arith, l, c .before .before .before .before .before .before .text-length .ensures, c .before .before .before .before .before .if2 .left) in
+    let j = c .before .before .before .before .before in
+    let room : length (stateText t) ≤ length (a .buf .now) = omega (arith, l, j .before .text-length .ensures, j .if2 .left) in
     let v = fits t (a .buf .now) h room in
     let r : c .before .before .put-tree .result ≡ length (stateText t) = omega (arith, c .before .before .put-tree .ensures .0) in
     (ap Length r ∙ sym (told-yes t (a .buf .now) v), c .before .before .put-tree .ensures .1 ∙ sym (left-yes t (a .buf .now) v))

@@ -1,0 +1,97 @@
+use Prim.Native.Nat.{ℕ}
+use borrow.Author.Needs.{needs}
+use lib.ListN.{length-append}
+use mathlib.Core.List.{List, _++_}
+use native.Mathlib.Omega.{arith}
+use Rattle.decimal.specs.Bytes.{bytes}
+use Rattle.decimal.specs.Text.{decimal}
+use Rattle.log_text.proofs.Texts.{item-length, item-wrote}
+use Rattle.tree_rules.specs.State.{engaged}
+use Rattle.tree_text.specs.Write.{stateText}
+use Rattle.log_end.proofs.Items.{item-short, tree-short, wrote-then}
+use Rattle.log_end.proofs.put_tree_end.Statement.{statement}
+use Rattle.tree.specs.View as treeView
+use Rattle.log_end.proofs.put_tree_end.Tie as tie
+use Rattle.log_end.proofs.put_tree_end.Reads as reads
+use Rattle.log_end.proofs.put_tree_end.Lts as lts
+use Rattle.decimal.proofs.put_word.Reads as put-word-reads
+use Rattle.log_text.proofs.put_item.Reads as put-item-reads
+use Rattle.tree.proofs.Tree.acks_in_transit.Reads as acks-in-transit-reads
+use Rattle.tree_writer.proofs.put_tree.Reads as put-tree-reads
+
+-- src/lib.rt:50:9
+acks-in-transit-requires : tie.Need-acks-in-transit-requires
+acks-in-transit-requires c κs = search needs
+
+-- src/lib.rt:53:31
+slice-aggregate-put-item : tie.Need-slice-aggregate-put-item
+slice-aggregate-put-item c = search needs
+
+-- src/lib.rt:53:9
+put-item-requires : tie.Need-put-item-requires
+put-item-requires c κs = omega (arith, c .before .before .before .before .before .pre .0, item-short (bytes "(end (boards ") (c .before .before .before .before .before .args .tree .n) (omega arith) (search needs))
+
+-- src/lib.rt:54:30
+slice-aggregate-put-word : tie.Need-slice-aggregate-put-word
+slice-aggregate-put-word c = search needs
+
+-- src/lib.rt:54:9
+put-word-requires : tie.Need-put-word-requires
+put-word-requires c κs = omega (arith, c .before .before .before .before .before .before .before .before .before .before .pre .0, item-short (bytes "(end (boards ") (c .before .before .before .before .before .before .before .before .before .before .args .tree .n) (omega arith) (search needs), c .before .before .before .before .put-item .kept .0, c .before .before .before .before .put-item .ensures .0)
+
+-- src/lib.rt:55:9
+put-tree-requires : tie.Need-put-tree-requires
+put-tree-requires c κs = let s = c .before .before .before .before .before .before .before .before .before .before .before .before .before .before .before .pre .1 in
+    (s .shape .engager-places, omega (arith, s .root-in, s .nodes), omega (arith, c .before .before .before .before .before .before .before .before .before .before .before .before .before .before .before .pre .0, item-short (bytes "(end (boards ") (c .before .before .before .before .before .before .before .before .before .before .before .before .before .before .before .args .tree .n) (omega arith) (search needs), c .before .before .before .before .before .before .before .before .before .put-item .kept .0, c .before .before .before .before .before .before .before .before .before .put-item .ensures .0, c .before .before .before .before .put-word .kept .0, c .before .before .before .before .put-word .ensures .0, tree-short (treeView.state (c .before .before .before .before .before .before .before .before .before .before .before .before .before .before .before .args .tree)) s))
+
+-- src/lib.rt:56:30
+slice-aggregate-put-item-2 : tie.Need-slice-aggregate-put-item-2
+slice-aggregate-put-item-2 c = search needs
+
+-- src/lib.rt:56:9
+put-item-requires-2 : tie.Need-put-item-requires-2
+put-item-requires-2 c κs = let s = c .before .before .before .before .before .before .before .before .before .before .before .before .before .before .before .before .before .before .before .before .pre .1 in
+    omega (arith, c .before .before .before .before .before .before .before .before .before .before .before .before .before .before .before .before .before .before .before .before .pre .0, item-short (bytes "(end (boards ") (c .before .before .before .before .before .before .before .before .before .before .before .before .before .before .before .before .before .before .before .before .args .tree .n) (omega arith) (search needs), item-short (bytes ") (acks ") (c .before .before .before .before .before .before .before .before .before .before .before .before .before .before .before .before .before .before .acks-in-transit .result) (omega arith) (search needs), c .before .before .before .before .before .before .before .before .before .before .before .before .before .before .put-item .kept .0, c .before .before .before .before .before .before .before .before .before .before .before .before .before .before .put-item .ensures .0, c .before .before .before .before .before .before .before .before .before .put-word .kept .0, c .before .before .before .before .before .before .before .before .before .put-word .ensures .0, c .before .before .before .before .put-tree .kept .0, c .before .before .before .before .put-tree .ensures .0, tree-short (treeView.state (c .before .before .before .before .before .before .before .before .before .before .before .before .before .before .before .before .before .before .before .before .args .tree)) s)
+
+-- src/lib.rt:57:22
+slice-aggregate-put-word-2 : tie.Need-slice-aggregate-put-word-2
+slice-aggregate-put-word-2 c = search needs
+
+-- src/lib.rt:57:5
+put-word-requires-2 : tie.Need-put-word-requires-2
+put-word-requires-2 c κs = let s = c .before .before .before .before .before .before .before .before .before .before .before .before .before .before .before .before .before .before .before .before .before .before .before .before .before .pre .1 in
+    omega (arith, c .before .before .before .before .before .before .before .before .before .before .before .before .before .before .before .before .before .before .before .before .before .before .before .before .before .pre .0, item-short (bytes "(end (boards ") (c .before .before .before .before .before .before .before .before .before .before .before .before .before .before .before .before .before .before .before .before .before .before .before .before .before .args .tree .n) (omega arith) (search needs), item-short (bytes ") (acks ") (c .before .before .before .before .before .before .before .before .before .before .before .before .before .before .before .before .before .before .before .before .before .before .before .acks-in-transit .result) (omega arith) (search needs), c .before .before .before .before .before .before .before .before .before .before .before .before .before .before .before .before .before .before .before .put-item .kept .0, c .before .before .before .before .before .before .before .before .before .before .before .before .before .before .before .before .before .before .before .put-item .ensures .0, c .before .before .before .before .before .before .before .before .before .before .before .before .before .before .put-word .kept .0, c .before .before .before .before .before .before .before .before .before .before .before .before .before .before .put-word .ensures .0, c .before .before .before .before .before .before .before .before .before .put-tree .kept .0, c .before .before .before .before .before .before .before .before .before .put-tree .ensures .0, c .before .before .before .before .put-item2 .kept .0, c .before .before .before .before .put-item2 .ensures .0, tree-short (treeView.state (c .before .before .before .before .before .before .before .before .before .before .before .before .before .before .before .before .before .before .before .before .before .before .before .before .before .args .tree)) s)
+
+-- src/lib.rt:46:1
+same-length : tie.Need-same-length
+same-length c = search needs
+
+-- src/lib.rt:46:1
+returns : tie.Need-returns
+returns c = let a = c .before .before .before .before .before .before .before .before .before .before .before .before .before .before .before .before .before .before .before .before .before .before .before .before .before .before .before .before .args in
+    let s = treeView.state (a .tree) in
+    let n = c .before .before .before .before .before .before .before .before .before .before .before .before .before .before .before .before .before .before .before .before .before .before .before .before .before .before .acks-in-transit .result in
+    let e = c .before .before .before .before .before .before .before .before .before .before .before .before .before .before .before .before .before .before .before .before .before .before .before .before .before .before .acks-in-transit .ensures in
+    let last : List ℕ = bytes ") (acks " ++ (decimal n ++ bytes "))\n") in
+    let w = item-wrote (bytes "(end (boards ") (a .tree .n) (bytes ") (engaged " ++ (stateText s ++ last)) (a .out .now) (a .at) (c .before .before .before .before .before .before .before .before .before .before .before .before .before .before .before .before .before .before .before .before .before .before .put-item .ensures)
+    (wrote-then (bytes ") (engaged ") (stateText s ++ last) _ _ (c .before .before .before .before .before .before .before .before .before .before .before .before .before .before .before .before .before .put-word .ensures)
+    (wrote-then (stateText s) last _ _ (c .before .before .before .before .before .before .before .before .before .before .before .before .put-tree .ensures)
+    (item-wrote (bytes ") (acks ") n (bytes "))\n") _ _ (c .before .before .before .before .before .before .before .put-item2 .ensures) (c .before .before .put-word2 .ensures)))) in
+    rw (← e) (w, omega (arith, item-length (bytes "(end (boards ") (a .tree .n) (bytes ") (engaged " ++ (stateText s ++ last)), length-append (stateText s) last, item-length (bytes ") (acks ") n (bytes "))\n"), tree-short s (c .before .before .before .before .before .before .before .before .before .before .before .before .before .before .before .before .before .before .before .before .before .before .before .before .before .before .before .before .pre .1), item-short (bytes "(end (boards ") (a .tree .n) (omega arith) (omega (arith, c .before .before .before .before .before .before .before .before .before .before .before .before .before .before .before .before .before .before .before .before .before .before .before .before .before .before .before .before .good)), item-short (bytes ") (acks ") n (omega arith) (search needs)))
+
+pub put-tree-end-spec : {M : Type 1} → statement M
+put-tree-end-spec =
+    tie.close
+    (tie.spec
+    acks-in-transit-requires
+    slice-aggregate-put-item
+    put-item-requires
+    slice-aggregate-put-word
+    put-word-requires
+    put-tree-requires
+    slice-aggregate-put-item-2
+    put-item-requires-2
+    slice-aggregate-put-word-2
+    put-word-requires-2
+    same-length
+    returns)

@@ -1,0 +1,66 @@
+// The end lines of the log program, written into a lent buffer.
+use decimal::put_word;
+use log_text::put_item;
+use ring::Ring;
+use tree::Tree;
+use tree_writer::put_tree;
+ghost use Prim.Native.Nat.{_+_, _≤_};
+ghost use lib.ListN.{length};
+ghost use Rattle.log_rules.specs.Answers.{ringEnd, treeEnd};
+ghost use Rattle.ring.specs.View.{state};
+ghost use Rattle.tree.specs.View as treeView;
+ghost use Rattle.tree_rules.specs.Soundness.{Sound};
+ghost use Rattle.log_end.specs.Ends.{ringText, Short};
+
+// `(end (boards 2) (holder 0) (moves 4) (flight 0) (black 0))`
+fn put_counts(
+    out: &mut [u8],
+    at: usize,
+    n: u64,
+    pos: u64,
+    moves: u64,
+    flight: u64,
+    black: u64,
+) -> usize
+    requires { ⌜ at + 256 ≤ length (now out) ⌝ }
+    ensures { λ r. ⌜ Short (now (out .entry)) at (ringText n pos moves flight black) r (now (out .exit)) ⌝ }
+{
+    let a = put_item(out, at, b"(end (boards ", n);
+    let b = put_item(out, a, b") (holder ", pos);
+    let c = put_item(out, b, b") (moves ", moves);
+    let d = put_item(out, c, b") (flight ", flight);
+    let e = put_item(out, d, b") (black ", black);
+    put_word(out, e, b"))\n")
+}
+
+pub fn put_ring_end(out: &mut [u8], at: usize, ring: Ring, moves: u64) -> usize
+    requires { ⌜ at + 256 ≤ length (now out) ⌝ }
+    ensures { λ r. ⌜ Short (now (out .entry)) at (ringEnd (state ring) moves) r (now (out .exit)) ⌝ }
+{
+    let flight = ring.in_transit();
+    let black = ring.black_nodes();
+    put_counts(
+        out,
+        at,
+        ring.n as u64,
+        ring.pos as u64,
+        moves,
+        flight,
+        black as u64,
+    )
+}
+
+// `(end (boards 3) (engaged (0)) (acks 0))`
+pub fn put_tree_end(out: &mut [u8], at: usize, tree: Tree) -> usize
+    requires { ⌜ (at + 256 ≤ length (now out)) × Sound (treeView.state tree) ⌝ }
+    ensures { λ r. ⌜ Short (now (out .entry)) at (treeEnd (treeView.state tree)) r (now (out .exit)) ⌝ }
+{
+    let acks = tree.acks_in_transit();
+    let engager = tree.engager;
+    let root = tree.root;
+    let a = put_item(out, at, b"(end (boards ", tree.n as u64);
+    let b = put_word(out, a, b") (engaged ");
+    let c = put_tree(out, b, &engager, root);
+    let d = put_item(out, c, b") (acks ", acks);
+    put_word(out, d, b"))\n")
+}

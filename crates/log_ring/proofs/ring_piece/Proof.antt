@@ -1,0 +1,35 @@
+use borrow.Author.Needs.{needs}
+use mathlib.Core.Path.{refl, subst⁻¹}
+use Rattle.ring_rules.specs.Soundness.{Sound}
+use Rattle.log_ring.proofs.Laws.{fed-by}
+use Rattle.log_ring.proofs.ring_piece.Statement.{statement}
+use Rattle.log_ring.proofs.ring_piece.Tie as tie
+use Rattle.log_ring.proofs.ring_piece.Reads as reads
+use Rattle.log_ring.proofs.ring_piece.Lts as lts
+use Rattle.log_ring.proofs.run_lines.Reads as run-lines-reads
+use Rattle.ring.proofs.gathered.Reads as gathered-reads
+use Rattle.ring.proofs.rest_of.Reads as rest-of-reads
+
+-- src/lib.rt:233:9
+rest-of-requires : tie.Need-rest-of-requires
+rest-of-requires c κs = search needs
+
+-- src/lib.rt:246:9
+run-lines-requires : tie.Need-run-lines-requires
+run-lines-requires c κs = let p = c .before .before .before .before .before .before .before .before .before .before .before .before .before .before .pre in record { sound = subst⁻¹ Sound (c .before .before .before .before .before .before .before .before .before .before .before .rest-of .ensures) (p .sound); few = p .few; most = p .most; inside = p .inside; room = p .room }
+
+-- src/lib.rt:257:9
+gathered-requires : tie.Need-gathered-requires
+gathered-requires c κs = search needs
+
+-- src/lib.rt:221:1
+same-length : tie.Need-same-length
+same-length c = search needs
+
+-- src/lib.rt:221:1
+returns : tie.Need-returns
+returns c = let u = c .before .before .before .before .run-lines in fed-by _ (c .before .before .before .before .before .before .before .before .before .before .before .before .before .before .before .before .rest-of .ensures) (c .gathered .ensures) refl refl refl refl (u .ensures .0) (u .ensures .1)
+
+pub ring-piece-spec : {M : Type 1} → statement M
+ring-piece-spec =
+    tie.close (tie.spec rest-of-requires run-lines-requires gathered-requires same-length returns)

@@ -1,0 +1,87 @@
+use borrow.Author.Needs.{needs}
+use mathlib.Core.Path.{_∙_, ap, sym}
+use native.Mathlib.Omega.{arith}
+use Rattle.log_lines.proofs.Ends.{found-line, found-none}
+use Rattle.log_rules.proofs.InPlace.{ring-ended}
+use Rattle.ring_check.specs.Whole.{whole}
+use Rattle.ring_check.specs.declared.Rest.{Rest}
+use Rattle.log_ring.proofs.Laws.{answered-went, formless-answered, run-none}
+use Rattle.log_ring.proofs.turn.Statement.{statement}
+use Rattle.log_ring.proofs.turn.Tie as tie
+use Rattle.log_ring.proofs.turn.Reads as reads
+use Rattle.log_ring.proofs.turn.Lts as lts
+use Rattle.forms.proofs.ring_step.Reads as ring-step-reads
+use Rattle.log_lines.proofs.line_end.Reads as line-end-reads
+use Rattle.log_ring.proofs.formless_line.Reads as formless-line-reads
+use Rattle.log_ring.proofs.step_line.Reads as step-line-reads
+
+-- src/lib.rt:177:9
+ring-step-requires : tie.Need-ring-step-requires
+ring-step-requires c κs = search needs
+
+-- src/lib.rt:179:24
+enum-known-said : tie.Need-enum-known-said
+enum-known-said c = search needs
+
+-- src/lib.rt:180:13
+step-line-requires : tie.Need-step-line-requires
+step-line-requires c κs = let p = c .before .before .before .before .before .before .before .before .before .before .before .before .pre in record { sound = p .0 .sound; few = p .0 .few; under = p .2; room = omega (arith, p .0 .room, p .1) }
+
+-- src/lib.rt:183:17
+enum-told : tie.Need-enum-told
+enum-told c = search needs
+
+-- src/lib.rt:183:17
+line-end-requires : tie.Need-line-end-requires
+line-end-requires c κs = search needs
+
+-- src/lib.rt:185:17
+returns : tie.Need-returns
+returns c = let p = c .before .before .before .before .before .before .before .pre in (run-none _ _ _ _ (p .0), λ same. found-none _ _ (sym (c .before .line-end .ensures) ∙ c .if1 .taken))
+
+-- src/lib.rt:187:13
+formless-line-requires : tie.Need-formless-line-requires
+formless-line-requires c κs = let p = c .before .before .before .before .before .before .before .before .pre in (p .2, omega (arith, p .0 .room, p .1))
+
+-- src/lib.rt:159:1
+same-length : tie.Need-same-length
+same-length c = search needs
+
+-- src/lib.rt:159:1
+returns-2 : tie.Need-returns-2
+returns-2 c = let p = c .before .before .before .before .before .before .before .before .before .before .before .before .before .before .before .pre in
+    let a = c .before .before .before .before .before .before .before .before .before .before .before .before .before .before .before .args in
+    let said = c .before .before .before .before .before .before .before .before .before .before .said .given in
+    let is = sym (said .1) ∙ c .before .before .before .before .before .before .before .before .before .before .before .before .ring-step .ensures .0 in
+    let en = ring-ended (a .piece .now) (a .r .next) _ _ (sym is) in
+    answered-went _ _ _ _ _ _ _ _ _ is (en .0) (en .1) (p .0 .inside) (p .2) (c .before .before .step-line .ensures)
+
+-- src/lib.rt:159:1
+same-length-2 : tie.Need-same-length-2
+same-length-2 c = search needs
+
+-- src/lib.rt:159:1
+returns-3 : tie.Need-returns-3
+returns-3 c = let p = c .before .before .before .before .before .before .before .before .before .before .before .pre in
+    let a = c .before .before .before .before .before .before .before .before .before .before .before .args in
+    let is = sym (c .before .before .before .before .before .before .enum-told .given .1) ∙ c .before .before .before .before .before .before .before .before .ring-step .ensures .0 in
+    let f = found-line (a .piece .now) (a .r .next) (c .before .before .before .before .before .line-end .ensures) (c .before .before .before .before .if1 .left) in
+    let e = c .before .before .formless-line .ensures in
+    answered-went _ _ _ _ _ _ _ _ _ is (f .line-ends) (f .past) (p .0 .inside) (p .2)
+    (formless-answered _ _ _ _ _ _ _ (p .0 .sound) (p .0 .few) (ap (λ (x : Rest). whole x (a .active .now) (a .color .now) (a .sent .now) (a .received .now) (a .pending .now)) (e .0)) (e .1) (e .2) (e .3) (e .4))
+
+pub turn-spec : {M : Type 1} → statement M
+turn-spec =
+    tie.close
+    (tie.spec
+    ring-step-requires
+    enum-known-said
+    step-line-requires
+    enum-told
+    line-end-requires
+    returns
+    formless-line-requires
+    same-length
+    returns-2
+    same-length-2
+    returns-3)

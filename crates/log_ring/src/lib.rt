@@ -1,0 +1,265 @@
+// The lines of a ring's run: each is recognised where it begins, carried out on lent columns, and answered.
+use forms::RingLine;
+use forms::RingStep;
+use forms::ring_step;
+use log_lines::line_end;
+use log_text::put_answer;
+use refusal::Refusal;
+use refusal::Verdict;
+use ring::Ring;
+use ring::gathered;
+use ring::rest_of;
+use ring_check::Rest;
+ghost use mathlib.Core.Path.{_≡_};
+ghost use mathlib.Core.Bool.{cond, _&&_};
+ghost use Prim.Native.Nat.{_+_, _≤_, _<_};
+ghost use lib.ListN.{length};
+ghost use Rattle.refusal.specs.Table.{isAccepted};
+ghost use Rattle.log_rules.specs.Answers.{answerText, ringRequest, isMove};
+ghost use Rattle.ring_check.specs.Whole.{whole};
+ghost use Rattle.ring.specs.View.{state};
+ghost use Rattle.log_text.specs.Wrote.{Wrote};
+ghost use Rattle.log_rules.specs.Pieces.{Onward, NoMore};
+ghost use Rattle.log_ring.specs.Run.{Ready, Answered, Inside, RingWent, Fits, Fed};
+
+// Where a run stands: the ring beside its columns, the accepted token moves, the lines answered, the index of the next line in the
+// piece, and of the next answer in the buffer.
+pub struct RingRun {
+    pub rest: Rest,
+    pub moves: u64,
+    pub lines: u64,
+    pub next: usize,
+    pub at: usize,
+}
+
+// The same with the ring by value.
+pub struct RingFed {
+    pub ring: Ring,
+    pub moves: u64,
+    pub lines: u64,
+    pub next: usize,
+    pub at: usize,
+}
+
+// A step by its kind number.
+pub struct Request {
+    pub kind: u8,
+    pub i: usize,
+    pub j: usize,
+}
+
+fn request_of(f: RingStep) -> Request
+    ensures { λ q. ⌜ (q .kind ≡ ringRequest f .kind) × (q .i ≡ ringRequest f .i) × (q .j ≡ ringRequest f .j) ⌝ }
+{
+    match f {
+        RingStep::Send(i, j) => Request { kind: 1, i, j },
+        RingStep::Take(i) => Request { kind: 2, i, j: 0 },
+        RingStep::Idle(i) => Request { kind: 3, i, j: 0 },
+        RingStep::Probe => Request {
+            kind: 4,
+            i: 0,
+            j: 0,
+        },
+        RingStep::Pass(i) => Request { kind: 5, i, j: 0 },
+        RingStep::Announce => Request {
+            kind: 6,
+            i: 0,
+            j: 0,
+        },
+    }
+}
+
+// One more move, where the step is a token move.
+fn moved_by(f: RingStep) -> u64
+    ensures { λ r. ⌜ r ≡ cond (isMove f) 1 0 ⌝ }
+{
+    match f {
+        RingStep::Send(_, _) => 0,
+        RingStep::Take(_) => 0,
+        RingStep::Idle(_) => 0,
+        RingStep::Probe => 1,
+        RingStep::Pass(_) => 1,
+        RingStep::Announce => 0,
+    }
+}
+
+// "moves are accepted token moves"
+fn moved(f: RingStep, v: Verdict) -> u64
+    ensures { λ r. ⌜ (r ≡ cond (isMove f && isAccepted v) 1 0) × (r ≤ 1) ⌝ }
+{
+    match v {
+        Verdict::Accepted => moved_by(f),
+        Verdict::Refused(_) => 0,
+    }
+}
+
+// The step f, carried out and answered as the next line, which ends before index `end`.
+fn step_line(
+    r: RingRun,
+    active: &mut [bool; 96],
+    color: &mut [u8; 12],
+    sent: &mut [u32; 96],
+    received: &mut [u32; 96],
+    pending: &mut [u32; 96],
+    f: RingStep,
+    end: usize,
+    out: &mut [u8],
+) -> RingRun
+    requires { ⌜ Ready r (whole (r .rest) (now active) (now color) (now sent) (now received) (now pending)) (now out) ⌝ }
+    ensures { λ t. ⌜ Answered r t (whole (r .rest) (now (active .entry)) (now (color .entry)) (now (sent .entry)) (now (received .entry)) (now (pending .entry)))
+        (whole (t .rest) (now (active .exit)) (now (color .exit)) (now (sent .exit)) (now (received .exit)) (now (pending .exit)))
+        (RingLine.Step f end) end (now (out .entry)) (now (out .exit)) ⌝ }
+{
+    let rest = r.rest;
+    let q = request_of(f);
+    let d = ring_steps::step(
+        rest,
+        active,
+        color,
+        sent,
+        received,
+        pending,
+        q.kind,
+        q.i,
+        q.j,
+    );
+    let v = d.verdict;
+    let next = d.rest;
+    let moves = r.moves + moved(f, v);
+    let lines = r.lines + 1;
+    let at = put_answer(out, r.at, lines, v);
+    RingRun {
+        rest: next,
+        moves,
+        lines,
+        next: end,
+        at,
+    }
+}
+
+// A line that says no step, which ends before index `end`.
+fn formless_line(r: RingRun, end: usize, out: &mut [u8]) -> RingRun
+    requires { ⌜ (r .lines < 1000000) × (r .at + 16 ≤ length (now out)) ⌝ }
+    ensures { λ t. ⌜ (t .rest ≡ r .rest) × (t .moves ≡ r .moves) × (t .lines ≡ r .lines + 1) × (t .next ≡ end)
+        × Wrote (now (out .entry)) (r .at) (answerText (r .lines + 1) (Verdict.Refused Refusal.NotAForm)) (t .at) (now (out .exit)) ⌝ }
+{
+    let rest = r.rest;
+    let lines = r.lines + 1;
+    let at = put_answer(out, r.at, lines, Verdict::Refused(Refusal::NotAForm));
+    RingRun {
+        rest,
+        moves: r.moves,
+        lines,
+        next: end,
+        at,
+    }
+}
+
+// The next line, where it is whole; else nothing is done.
+fn turn(
+    r: RingRun,
+    active: &mut [bool; 96],
+    color: &mut [u8; 12],
+    sent: &mut [u32; 96],
+    received: &mut [u32; 96],
+    pending: &mut [u32; 96],
+    piece: &[u8],
+    out: &mut [u8],
+) -> RingRun
+    requires { ⌜ Inside r (whole (r .rest) (now active) (now color) (now sent) (now received) (now pending)) (now piece) (now out)
+        × (r .next < length (now piece)) × (r .lines < 1000000) ⌝ }
+    ensures { λ t. ⌜ RingWent r t (whole (r .rest) (now (active .entry)) (now (color .entry)) (now (sent .entry)) (now (received .entry)) (now (pending .entry)))
+        (whole (t .rest) (now (active .exit)) (now (color .exit)) (now (sent .exit)) (now (received .exit)) (now (pending .exit)))
+        (now (piece .entry)) (now (out .entry)) (now (out .exit))
+        × Onward (r .next) (t .next) (now (piece .entry)) ⌝ }
+{
+    let next = r.next;
+    let said = ring_step(piece, next);
+    match said {
+        RingLine::Step(f, end) => {
+            step_line(r, active, color, sent, received, pending, f, end, out)
+        }
+        RingLine::NotAForm => {
+            let end = line_end(piece, next);
+            if end == 0 {
+                return r;
+            }
+            formless_line(r, end, out)
+        }
+    }
+}
+
+// The whole lines of a piece from the next on.
+fn run_lines(
+    first: RingRun,
+    active: &mut [bool; 96],
+    color: &mut [u8; 12],
+    sent: &mut [u32; 96],
+    received: &mut [u32; 96],
+    pending: &mut [u32; 96],
+    piece: &[u8],
+    out: &mut [u8],
+) -> RingRun
+    requires { ⌜ Inside first (whole (first .rest) (now active) (now color) (now sent) (now received) (now pending)) (now piece) (now out) ⌝ }
+    ensures { λ t. ⌜ RingWent first t (whole (first .rest) (now (active .entry)) (now (color .entry)) (now (sent .entry)) (now (received .entry)) (now (pending .entry)))
+        (whole (t .rest) (now (active .exit)) (now (color .exit)) (now (sent .exit)) (now (received .exit)) (now (pending .exit)))
+        (now (piece .entry)) (now (out .entry)) (now (out .exit))
+        × NoMore (t .lines) (t .next) (now (piece .entry)) ⌝ }
+{
+    let mut r = first;
+    while r.next < piece.len() && r.lines < 1000000 {
+        let t = turn(r, active, color, sent, received, pending, piece, out);
+        if t.next == r.next {
+            return t;
+        }
+        r = t;
+    }
+    r
+}
+
+// The same with the ring by value: it is taken apart, and put together again.
+pub fn ring_piece(
+    ring: Ring,
+    moves: u64,
+    lines: u64,
+    piece: &[u8],
+    from: usize,
+    out: &mut [u8],
+    at: usize,
+) -> RingFed
+    requires { ⌜ Fits (state ring) moves lines (now piece) from (now out) at ⌝ }
+    ensures { λ f. ⌜ Fed (state ring) moves lines (now (piece .entry)) from (now (out .entry)) at f (now (out .exit)) ⌝ }
+{
+    let rest = rest_of(ring);
+    let mut active = ring.active;
+    let mut color = ring.color;
+    let mut sent = ring.sent;
+    let mut received = ring.received;
+    let mut pending = ring.pending;
+    let first = RingRun {
+        rest,
+        moves,
+        lines,
+        next: from,
+        at,
+    };
+    let t = run_lines(
+        first,
+        &mut active,
+        &mut color,
+        &mut sent,
+        &mut received,
+        &mut pending,
+        piece,
+        out,
+    );
+    let last = t.rest;
+    let whole = gathered(last, active, color, sent, received, pending);
+    RingFed {
+        ring: whole,
+        moves: t.moves,
+        lines: t.lines,
+        next: t.next,
+        at: t.at,
+    }
+}

@@ -1,0 +1,4 @@
+pub mod Examples
+pub mod Ends
+pub mod Cuts
+pub mod InPlace

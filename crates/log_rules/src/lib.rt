@@ -1,0 +1,1 @@
+// The log program, the rules: definitions in specs/, their theorems in proofs/.
