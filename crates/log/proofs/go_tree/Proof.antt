@@ -1,0 +1,35 @@
+use borrow.Author.Needs.{needs}
+use native.Mathlib.Omega.{arith}
+use Rattle.log.proofs.Feeds.{fed-went}
+use Rattle.log.proofs.go_tree.Statement.{statement}
+use Rattle.log.proofs.go_tree.Tie as tie
+use Rattle.log.proofs.go_tree.Reads as reads
+use Rattle.log.proofs.go_tree.Lts as lts
+use Rattle.log.proofs.hold_rest.Reads as hold-rest-reads
+use Rattle.log_tree.proofs.tree_piece.Reads as tree-piece-reads
+
+-- src/lib.rt:115:9
+tree-piece-requires : tie.Need-tree-piece-requires
+tree-piece-requires c κs = search needs
+
+-- src/lib.rt:116:9
+hold-rest-requires : tie.Need-hold-rest-requires
+hold-rest-requires c κs = search needs
+
+-- src/lib.rt:102:1
+same-length : tie.Need-same-length
+same-length c = search needs
+
+-- src/lib.rt:102:1
+same-length-2 : tie.Need-same-length-2
+same-length-2 c = search needs
+
+-- src/lib.rt:102:1
+returns : tie.Need-returns
+returns c = let p = c .before .before .before .before .before .before .before .before .before .before .before .before .pre in
+    let u = c .before .before .before .before .before .before .before .tree-piece .ensures in
+    fed-went _ (u .went) (c .before .before .before .hold-rest .ensures) (u .sound) (omega (arith, p .0 .places, c .before .before .before .hold-rest .kept)) (p .0)
+
+pub go-tree-spec : {M : Type 1} → statement M
+go-tree-spec =
+    tie.close (tie.spec tree-piece-requires hold-rest-requires same-length same-length-2 returns)

@@ -1,0 +1,295 @@
+// The log program over pieces of a log: nothing here reads or writes, a program does that around `feed` and `finish`.
+use log_first::Opening;
+use log_first::Stage;
+use log_first::blank_ring;
+use log_first::blank_tree;
+use log_first::open_run;
+use log_first::refuse;
+use log_lines::hold;
+use log_lines::line_end;
+use log_ring::ring_piece;
+use log_text::put_answer;
+use log_tree::tree_piece;
+use refusal::Refusal;
+use refusal::Verdict;
+use ring::Ring;
+use tree::Tree;
+ghost use mathlib.Core.Path.{_≡_};
+ghost use mathlib.Core.List.{[]};
+ghost use Prim.Native.Nat.{_+_, _*_, _≤_, _<_};
+ghost use lib.ListN.{length, drop};
+ghost use Rattle.ring.specs.View as ringView;
+ghost use Rattle.tree.specs.View as treeView;
+ghost use Rattle.log_rules.specs.Answers.{fresh, onRing, onTree};
+ghost use Rattle.log_rules.specs.Pieces.{NoMore, heldOf};
+ghost use Rattle.log_first.specs.Open.{SoundStage, stageBy};
+ghost use Rattle.log.specs.Feed.{stageOf, Good, Room, HeldRest, FedFrom, Going, HeldReady, HeldTold};
+
+// A log as far as it is read: what it has come to, the accepted token moves, the lines answered, and how many bytes are held of the next
+// line in a buffer of 700 (701: it is too long).
+pub struct Log {
+    pub stage: Stage,
+    pub ring: Ring,
+    pub tree: Tree,
+    pub moves: u64,
+    pub lines: u64,
+    pub len: usize,
+}
+
+// The log after a piece, and how many bytes of answers are written.
+pub struct Fed {
+    pub log: Log,
+    pub count: usize,
+}
+
+// Nothing is read.
+pub fn start() -> Log
+    ensures { λ l. ⌜ (stageOf l ≡ fresh) × (l .lines ≡ 0) × (l .len ≡ 0) ⌝ }
+{
+    let ring = blank_ring();
+    let tree = blank_tree();
+    Log {
+        stage: Stage::Fresh,
+        ring,
+        tree,
+        moves: 0,
+        lines: 0,
+        len: 0,
+    }
+}
+
+// What is held of the line that the piece cuts.
+fn hold_rest(lines: u64, piece: &[u8], next: usize, line: &mut [u8]) -> usize
+    requires { ⌜ (next ≤ length (now piece)) × (length (now line) ≡ 700) × NoMore lines next (now piece) ⌝ }
+    ensures { λ len. ⌜ HeldRest lines next (now (piece .entry)) len (now (line .exit)) ⌝ }
+{
+    if 1000000 <= lines {
+        return 0;
+    }
+    hold(piece, next, piece.len(), line, 0)
+}
+
+// The lines of the piece from `from` on, of a ring's run.
+fn go_ring(
+    ring: Ring,
+    tree: Tree,
+    moves: u64,
+    lines: u64,
+    piece: &[u8],
+    from: usize,
+    line: &mut [u8],
+    out: &mut [u8],
+    at: usize,
+) -> Fed
+    requires { ⌜ Room lines (now piece) from (now line) (now out) at × SoundStage (onRing (ringView.state ring) moves) lines ⌝ }
+    ensures { λ f. ⌜ FedFrom (onRing (ringView.state ring) moves) lines [] (drop from (now (piece .entry))) f (now (line .exit)) at (now (out .entry)) (now (out .exit)) ⌝ }
+{
+    let f = ring_piece(ring, moves, lines, piece, from, out, at);
+    let len = hold_rest(f.lines, piece, f.next, line);
+    let after = f.ring;
+    let log = Log {
+        stage: Stage::Ring,
+        ring: after,
+        tree,
+        moves: f.moves,
+        lines: f.lines,
+        len,
+    };
+    Fed { log, count: f.at }
+}
+
+// The same of a tree's run.
+fn go_tree(
+    ring: Ring,
+    tree: Tree,
+    lines: u64,
+    piece: &[u8],
+    from: usize,
+    line: &mut [u8],
+    out: &mut [u8],
+    at: usize,
+) -> Fed
+    requires { ⌜ Room lines (now piece) from (now line) (now out) at × SoundStage (onTree (treeView.state tree)) lines ⌝ }
+    ensures { λ f. ⌜ FedFrom (onTree (treeView.state tree)) lines [] (drop from (now (piece .entry))) f (now (line .exit)) at (now (out .entry)) (now (out .exit)) ⌝ }
+{
+    let f = tree_piece(tree, lines, piece, from, out, at);
+    let len = hold_rest(f.lines, piece, f.next, line);
+    let after = f.tree;
+    let log = Log {
+        stage: Stage::Tree,
+        ring,
+        tree: after,
+        moves: 0,
+        lines: f.lines,
+        len,
+    };
+    Fed { log, count: f.at }
+}
+
+// The lines of the piece from `from` on, where nothing is held and the first line is read.
+fn go_on(log: Log, piece: &[u8], from: usize, line: &mut [u8], out: &mut [u8], at: usize) -> Fed
+    requires { ⌜ Going log × Room (log .lines) (now piece) from (now line) (now out) at ⌝ }
+    ensures { λ f. ⌜ FedFrom (stageOf log) (log .lines) [] (drop from (now (piece .entry))) f (now (line .exit)) at (now (out .entry)) (now (out .exit)) ⌝ }
+{
+    let stage = log.stage;
+    let ring = log.ring;
+    let tree = log.tree;
+    match stage {
+        Stage::Ring => go_ring(ring, tree, log.moves, log.lines, piece, from, line, out, at),
+        Stage::Tree => go_tree(ring, tree, log.lines, piece, from, line, out, at),
+        Stage::Over => Fed { log, count: at },
+        Stage::Fresh => Fed { log, count: at },
+    }
+}
+
+// The log after its first line.
+fn begun(o: Opening, lines: u64) -> Fed
+    requires { ⌜ lines < 1000000 ⌝ }
+    ensures { λ f. ⌜ (stageOf (f .log) ≡ stageBy (o .stage) (o .ring) 0 (o .tree)) × (f .log .lines ≡ lines + 1) × (f .log .len ≡ 0) × (f .count ≡ o .at) ⌝ }
+{
+    let stage = o.stage;
+    let ring = o.ring;
+    let tree = o.tree;
+    let log = Log {
+        stage,
+        ring,
+        tree,
+        moves: 0,
+        lines: lines + 1,
+        len: 0,
+    };
+    Fed { log, count: o.at }
+}
+
+// The first line, held whole.
+fn held_first(lines: u64, len: usize, line: &[u8], out: &mut [u8]) -> Fed
+    requires { ⌜ HeldReady lines len (now line) (now out) ⌝ }
+    ensures { λ f. ⌜ HeldTold fresh lines len (now (line .entry)) f (now (out .entry)) (now (out .exit)) ⌝ }
+{
+    if 700 < len {
+        return begun(refuse(Refusal::NotAForm, out), lines);
+    }
+    begun(open_run(&line[..len], out), lines)
+}
+
+// A line of a ring's run, held whole: it is a piece by itself.
+fn held_ring(
+    ring: Ring,
+    tree: Tree,
+    moves: u64,
+    lines: u64,
+    len: usize,
+    line: &[u8],
+    out: &mut [u8],
+) -> Fed
+    requires { ⌜ HeldReady lines len (now line) (now out) × SoundStage (onRing (ringView.state ring) moves) lines ⌝ }
+    ensures { λ f. ⌜ HeldTold (onRing (ringView.state ring) moves) lines len (now (line .entry)) f (now (out .entry)) (now (out .exit)) ⌝ }
+{
+    if 700 < len {
+        let at = put_answer(out, 0, lines + 1, Verdict::Refused(Refusal::NotAForm));
+        let log = Log {
+            stage: Stage::Ring,
+            ring,
+            tree,
+            moves,
+            lines: lines + 1,
+            len: 0,
+        };
+        return Fed { log, count: at };
+    }
+    let f = ring_piece(ring, moves, lines, &line[..len], 0, out, 0);
+    let after = f.ring;
+    let log = Log {
+        stage: Stage::Ring,
+        ring: after,
+        tree,
+        moves: f.moves,
+        lines: f.lines,
+        len: 0,
+    };
+    Fed { log, count: f.at }
+}
+
+// The same of a tree's run.
+fn held_tree(ring: Ring, tree: Tree, lines: u64, len: usize, line: &[u8], out: &mut [u8]) -> Fed
+    requires { ⌜ HeldReady lines len (now line) (now out) × SoundStage (onTree (treeView.state tree)) lines ⌝ }
+    ensures { λ f. ⌜ HeldTold (onTree (treeView.state tree)) lines len (now (line .entry)) f (now (out .entry)) (now (out .exit)) ⌝ }
+{
+    if 700 < len {
+        let at = put_answer(out, 0, lines + 1, Verdict::Refused(Refusal::NotAForm));
+        let log = Log {
+            stage: Stage::Tree,
+            ring,
+            tree,
+            moves: 0,
+            lines: lines + 1,
+            len: 0,
+        };
+        return Fed { log, count: at };
+    }
+    let f = tree_piece(tree, lines, &line[..len], 0, out, 0);
+    let after = f.tree;
+    let log = Log {
+        stage: Stage::Tree,
+        ring,
+        tree: after,
+        moves: 0,
+        lines: f.lines,
+        len: 0,
+    };
+    Fed { log, count: f.at }
+}
+
+// The log with `len` bytes held.
+fn holding(log: Log, len: usize) -> Log
+    ensures { λ l. ⌜ (stageOf l ≡ stageOf log) × (l .lines ≡ log .lines) × (l .len ≡ len) ⌝ }
+{
+    let mut l = log;
+    l.len = len;
+    l
+}
+
+// The line that is held whole: `len` bytes of the buffer, 701 if it is too long.
+fn answer_held(log: Log, len: usize, line: &[u8], out: &mut [u8]) -> Fed
+    requires { ⌜ HeldReady (log .lines) len (now line) (now out) × SoundStage (stageOf log) (log .lines) ⌝ }
+    ensures { λ f. ⌜ HeldTold (stageOf log) (log .lines) len (now (line .entry)) f (now (out .entry)) (now (out .exit)) ⌝ }
+{
+    let stage = log.stage;
+    let ring = log.ring;
+    let tree = log.tree;
+    match stage {
+        Stage::Fresh => held_first(log.lines, len, line, out),
+        Stage::Ring => held_ring(ring, tree, log.moves, log.lines, len, line, out),
+        Stage::Tree => held_tree(ring, tree, log.lines, len, line, out),
+        Stage::Over => {
+            let same = holding(log, 0);
+            Fed {
+                log: same,
+                count: 0,
+            }
+        }
+    }
+}
+
+// A piece of the log: its whole lines are answered into `out`, and what it has of the next is held in `line`.
+pub fn feed(log: Log, piece: &[u8], line: &mut [u8], out: &mut [u8]) -> Fed
+    requires { ⌜ Good log (now line) × ((length (now piece) + 700) * 16 ≤ length (now out)) ⌝ }
+    ensures { λ f. ⌜ FedFrom (stageOf log) (log .lines) (heldOf (now (line .entry)) (log .len)) (now (piece .entry)) f (now (line .exit)) 0 (now (out .entry)) (now (out .exit)) ⌝ }
+{
+    if 1000000 <= log.lines {
+        return Fed { log, count: 0 };
+    }
+    let end = line_end(piece, 0);
+    if end == 0 {
+        let more = hold(piece, 0, piece.len(), line, log.len);
+        let held = holding(log, more);
+        return Fed {
+            log: held,
+            count: 0,
+        };
+    }
+    let len = hold(piece, 0, end, line, log.len);
+    let h = answer_held(log, len, line, out);
+    let next = h.log;
+    go_on(next, piece, end, line, out, h.count)
+}
