@@ -237,3 +237,13 @@ whole-fed l m f piece line line₁ line₂ out out₁ out₂ e len g found h a b
       room = omega (arith, b .room);
       good = b .good;
     }
+
+-- nothing is read
+pub start-good : (l : Log) (line : List ℕ) → (stageOf l ≡ rules.fresh) × (l .lines ≡ 0) × (l .len ≡ 0) → length line ≡ 700 → Good l line
+start-good l line e places = record {
+  sound = subst⁻¹ (λ (s : rules.Stage). SoundStage s (l .lines)) (e .0) tt;
+  most = omega (arith, e .1);
+  fits = omega (arith, e .2);
+  places = places;
+  part = subst⁻¹ (λ (n : ℕ). PartLine (heldOf line n)) (e .2) empty;
+}
