@@ -11,7 +11,10 @@ const TURNS: usize = 11;
 fn seconds(program: &str, log: &str) -> std::io::Result<f64> {
     let input = File::open(log)?;
     let begin = Instant::now();
-    let status = Command::new(program).stdin(input).stdout(Stdio::null()).status()?;
+    let status = Command::new(program)
+        .stdin(input)
+        .stdout(Stdio::null())
+        .status()?;
     assert!(status.success(), "{program} failed");
     Ok(begin.elapsed().as_secs_f64())
 }
@@ -32,18 +35,29 @@ fn compare(name: &str, log: &[u8], programs: &[String]) -> std::io::Result<()> {
     }
     fs::remove_file(path)?;
     let (a, b) = (median(first), median(other));
-    println!("{name}: {:.1} ms, {:.1} ms, ratio {:.2}", a * 1e3, b * 1e3, a / b);
+    println!(
+        "{name}: {:.1} ms, {:.1} ms, ratio {:.2}",
+        a * 1e3,
+        b * 1e3,
+        a / b
+    );
     Ok(())
 }
 
 fn main() -> ExitCode {
     let arguments: Vec<String> = std::env::args().skip(1).collect();
-    let lines = arguments.get(2).map_or(Ok(1_000_000), |lines| lines.parse());
+    let lines = arguments
+        .get(2)
+        .map_or(Ok(1_000_000), |lines| lines.parse());
     let (true, Ok(lines)) = (arguments.len() >= 2, lines) else {
         eprintln!("usage: bench PROGRAM OTHER [LINES]");
         return ExitCode::FAILURE;
     };
-    let logs = [("busy", busy_ring(lines)), ("token", moving_token(lines)), ("tree", busy_tree(lines))];
+    let logs = [
+        ("busy", busy_ring(lines)),
+        ("token", moving_token(lines)),
+        ("tree", busy_tree(lines)),
+    ];
     for (name, log) in &logs {
         if let Err(error) = compare(name, log, &arguments) {
             eprintln!("bench: {error}");
