@@ -2,3 +2,4 @@ pub mod Lines
 pub mod Answers
 pub mod Output
 pub mod Pieces
+pub mod Examples

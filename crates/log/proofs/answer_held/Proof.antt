@@ -13,65 +13,50 @@ use Rattle.log.proofs.held_ring.Reads as held-ring-reads
 use Rattle.log.proofs.held_tree.Reads as held-tree-reads
 use Rattle.log.proofs.holding.Reads as holding-reads
 
--- src/lib.rt:253:58
 enum-told : tie.Need-enum-told
 enum-told c = search needs
 
--- src/lib.rt:253:25
 held-first-requires : tie.Need-held-first-requires
 held-first-requires c κs = search needs
 
--- src/lib.rt:254:79
 enum-told-2 : tie.Need-enum-told-2
 enum-told-2 c = search needs
 
--- src/lib.rt:254:24
 held-ring-requires : tie.Need-held-ring-requires
 held-ring-requires c κs = let p = c .before .before .before .before .before .before .before .pre in let l = c .before .before .before .before .before .before .before .args .log in
     (p .0, subst (λ (x : code.Stage). SoundStage (stageBy x (l .ring) (l .moves) (l .tree)) (l .lines)) (c .before .enum-told2 .given .1) (p .1))
 
--- src/lib.rt:255:68
 enum-told-3 : tie.Need-enum-told-3
 enum-told-3 c = search needs
 
--- src/lib.rt:255:24
 held-tree-requires : tie.Need-held-tree-requires
 held-tree-requires c κs = let p = c .before .before .before .before .before .before .before .pre in let l = c .before .before .before .before .before .before .before .args .log in
     (p .0, subst (λ (x : code.Stage). SoundStage (stageBy x (l .ring) (l .moves) (l .tree)) (l .lines)) (c .before .enum-told3 .given .1) (p .1))
 
--- src/lib.rt:257:17
 enum-told-4 : tie.Need-enum-told-4
 enum-told-4 c = search needs
 
--- src/lib.rt:257:17
 holding-requires : tie.Need-holding-requires
 holding-requires c κs = search needs
 
--- src/lib.rt:245:1
 same-length : tie.Need-same-length
 same-length c = search needs
 
--- src/lib.rt:245:1
 returns : tie.Need-returns
 returns c = rw (c .before .before .before .before .enum-told .given .1) (c .before .before .held-first .ensures)
 
--- src/lib.rt:245:1
 same-length-2 : tie.Need-same-length-2
 same-length-2 c = search needs
 
--- src/lib.rt:245:1
 returns-2 : tie.Need-returns-2
 returns-2 c = rw (c .before .before .before .before .enum-told2 .given .1) (c .before .before .held-ring .ensures)
 
--- src/lib.rt:245:1
 same-length-3 : tie.Need-same-length-3
 same-length-3 c = search needs
 
--- src/lib.rt:245:1
 returns-3 : tie.Need-returns-3
 returns-3 c = rw (c .before .before .before .before .enum-told3 .given .1) (c .before .before .held-tree .ensures)
 
--- src/lib.rt:245:1
 returns-4 : tie.Need-returns-4
 returns-4 c = let p = c .before .before .before .before .before .before .before .pre in let l = c .before .before .before .before .before .before .before .args .log in
     let e = ap (λ (x : code.Stage). stageBy x (l .ring) (l .moves) (l .tree)) (c .before .enum-told4 .given .1) in

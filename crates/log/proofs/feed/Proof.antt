@@ -13,57 +13,45 @@ use Rattle.log.proofs.holding.Reads as holding-reads
 use Rattle.log_lines.proofs.hold.Reads as hold-reads
 use Rattle.log_lines.proofs.line_end.Reads as line-end-reads
 
--- src/lib.rt:272:9
 returns : tie.Need-returns
 returns c = full-fed (c .before .before .before .before .before .args .log) _ _ _ (c .if1 .taken) (c .before .before .before .before .before .pre .0)
 
--- src/lib.rt:274:9
 line-end-requires : tie.Need-line-end-requires
 line-end-requires c κs = search needs
 
--- src/lib.rt:276:13
 hold-requires : tie.Need-hold-requires
 hold-requires c κs = search needs
 
--- src/lib.rt:277:13
 holding-requires : tie.Need-holding-requires
 holding-requires c κs = search needs
 
--- src/lib.rt:278:9
 same-length : tie.Need-same-length
 same-length c = search needs
 
--- src/lib.rt:278:9
 returns-2 : tie.Need-returns-2
 returns-2 c = let p = c .before .before .before .before .before .before .before .before .before .before .before .before .pre in let a = c .before .before .before .before .before .before .before .before .before .before .before .before .args in
     part-fed (a .log) (c .holding .result) (a .piece .now) (a .line .now) _ _ (c .before .before .before .hold .result) (p .0) (found-none (a .piece .now) 0 (sym (c .before .before .before .before .before .before .line-end .ensures) ∙ c .before .before .before .before .before .if2 .taken)) (omega (arith, p .0 .places, c .before .before .before .hold .kept)) (c .before .before .before .hold .ensures) (c .holding .ensures)
 
--- src/lib.rt:283:9
 hold-requires-2 : tie.Need-hold-requires-2
 hold-requires-2 c κs = let p = c .before .before .before .before .before .before .before .before .pre in let a = c .before .before .before .before .before .before .before .before .args in
     let f = found-line (a .piece .now) 0 (c .before .before .line-end .ensures) (c .before .if2 .left) in
     (omega arith, f .inside, p .0 .places, p .0 .fits)
 
--- src/lib.rt:284:9
 answer-held-requires : tie.Need-answer-held-requires
 answer-held-requires c κs = search needs
 
--- src/lib.rt:286:5
 go-on-requires : tie.Need-go-on-requires
 go-on-requires c κs = let p = c .before .before .before .before .before .before .before .before .before .before .before .before .before .before .before .before .before .before .before .pre in let a = c .before .before .before .before .before .before .before .before .before .before .before .before .before .before .before .before .before .before .before .args in
     let f = found-line (a .piece .now) 0 (c .before .before .before .before .before .before .before .before .before .before .before .before .before .line-end .ensures) (c .before .before .before .before .before .before .before .before .before .before .before .before .if2 .left) in
     let u = c .before .before .before .before .before .answer-held .ensures in
     (u .going, record { most = u .most; inside = f .inside; places = omega (arith, p .0 .places, c .before .before .before .before .before .before .before .before .before .before .hold2 .kept); room = omega (arith, p .1, u .short, f .inside, c .before .before .before .before .before .answer-held .kept) })
 
--- src/lib.rt:267:1
 same-length-2 : tie.Need-same-length-2
 same-length-2 c = search needs
 
--- src/lib.rt:267:1
 same-length-3 : tie.Need-same-length-3
 same-length-3 c = search needs
 
--- src/lib.rt:267:1
 returns-3 : tie.Need-returns-3
 returns-3 c = let p = c .before .before .before .before .before .before .before .before .before .before .before .before .before .before .before .before .before .before .before .before .before .before .before .before .pre in let a = c .before .before .before .before .before .before .before .before .before .before .before .before .before .before .before .before .before .before .before .before .before .before .before .before .args in
     let f = found-line (a .piece .now) 0 (c .before .before .before .before .before .before .before .before .before .before .before .before .before .before .before .before .before .before .line-end .ensures) (c .before .before .before .before .before .before .before .before .before .before .before .before .before .before .before .before .before .if2 .left) in

@@ -11,62 +11,48 @@ use Rattle.log.proofs.go_on.Lts as lts
 use Rattle.log.proofs.go_ring.Reads as go-ring-reads
 use Rattle.log.proofs.go_tree.Reads as go-tree-reads
 
--- src/lib.rt:138:79
 enum-told : tie.Need-enum-told
 enum-told c = search needs
 
--- src/lib.rt:138:24
 go-ring-requires : tie.Need-go-ring-requires
 go-ring-requires c κs = let p = c .before .before .before .before .before .before .before .before .before .pre in let l = c .before .before .before .before .before .before .before .before .before .args .log in
     (p .1, subst (λ (x : code.Stage). SoundStage (stageBy x (l .ring) (l .moves) (l .tree)) (l .lines)) (c .before .before .enum-told .given .1) (p .0 .sound))
 
--- src/lib.rt:139:68
 enum-told-2 : tie.Need-enum-told-2
 enum-told-2 c = search needs
 
--- src/lib.rt:139:24
 go-tree-requires : tie.Need-go-tree-requires
 go-tree-requires c κs = let p = c .before .before .before .before .before .before .before .before .before .pre in let l = c .before .before .before .before .before .before .before .before .before .args .log in
     (p .1, subst (λ (x : code.Stage). SoundStage (stageBy x (l .ring) (l .moves) (l .tree)) (l .lines)) (c .before .before .enum-told2 .given .1) (p .0 .sound))
 
--- src/lib.rt:140:24
 enum-told-3 : tie.Need-enum-told-3
 enum-told-3 c = search needs
 
--- src/lib.rt:141:25
 enum-told-4 : tie.Need-enum-told-4
 enum-told-4 c = search needs
 
--- src/lib.rt:130:1
 same-length : tie.Need-same-length
 same-length c = search needs
 
--- src/lib.rt:130:1
 same-length-2 : tie.Need-same-length-2
 same-length-2 c = search needs
 
--- src/lib.rt:130:1
 returns : tie.Need-returns
 returns c = rw (c .before .before .before .before .before .before .before .enum-told .given .1) (c .before .before .before .before .go-ring .ensures)
 
--- src/lib.rt:130:1
 same-length-3 : tie.Need-same-length-3
 same-length-3 c = search needs
 
--- src/lib.rt:130:1
 same-length-4 : tie.Need-same-length-4
 same-length-4 c = search needs
 
--- src/lib.rt:130:1
 returns-2 : tie.Need-returns-2
 returns-2 c = rw (c .before .before .before .before .before .before .before .enum-told2 .given .1) (c .before .before .before .before .go-tree .ensures)
 
--- src/lib.rt:130:1
 returns-3 : tie.Need-returns-3
 returns-3 c = let p = c .before .before .before .before .before .before .before .pre in let l = c .before .before .before .before .before .before .before .args .log in
     over-fed l _ _ _ _ (ap (λ (x : code.Stage). stageBy x (l .ring) (l .moves) (l .tree)) (c .enum-told3 .given .1)) (p .0 .empty) (p .1 .most) (p .1 .places) (omega (arith, p .1 .room))
 
--- src/lib.rt:130:1
 returns-4 : tie.Need-returns-4
 returns-4 c = let p = c .before .before .before .before .before .before .before .pre in let l = c .before .before .before .before .before .before .before .args .log in
     absurd (subst (λ (x : code.Stage). Begun (stageBy x (l .ring) (l .moves) (l .tree))) (c .enum-told4 .given .1) (p .0 .begun))

@@ -8,23 +8,18 @@ use Rattle.log.proofs.go_ring.Lts as lts
 use Rattle.log.proofs.hold_rest.Reads as hold-rest-reads
 use Rattle.log_ring.proofs.ring_piece.Reads as ring-piece-reads
 
--- src/lib.rt:87:9
 ring-piece-requires : tie.Need-ring-piece-requires
 ring-piece-requires c κs = search needs
 
--- src/lib.rt:88:9
 hold-rest-requires : tie.Need-hold-rest-requires
 hold-rest-requires c κs = search needs
 
--- src/lib.rt:73:1
 same-length : tie.Need-same-length
 same-length c = search needs
 
--- src/lib.rt:73:1
 same-length-2 : tie.Need-same-length-2
 same-length-2 c = search needs
 
--- src/lib.rt:73:1
 returns : tie.Need-returns
 returns c = let p = c .before .before .before .before .before .before .before .before .before .before .before .before .pre in
     let u = c .before .before .before .before .before .before .before .ring-piece .ensures in

@@ -8,23 +8,18 @@ use Rattle.log.proofs.go_tree.Lts as lts
 use Rattle.log.proofs.hold_rest.Reads as hold-rest-reads
 use Rattle.log_tree.proofs.tree_piece.Reads as tree-piece-reads
 
--- src/lib.rt:115:9
 tree-piece-requires : tie.Need-tree-piece-requires
 tree-piece-requires c κs = search needs
 
--- src/lib.rt:116:9
 hold-rest-requires : tie.Need-hold-rest-requires
 hold-rest-requires c κs = search needs
 
--- src/lib.rt:102:1
 same-length : tie.Need-same-length
 same-length c = search needs
 
--- src/lib.rt:102:1
 same-length-2 : tie.Need-same-length-2
 same-length-2 c = search needs
 
--- src/lib.rt:102:1
 returns : tie.Need-returns
 returns c = let p = c .before .before .before .before .before .before .before .before .before .before .before .before .pre in
     let u = c .before .before .before .before .before .before .before .tree-piece .ensures in

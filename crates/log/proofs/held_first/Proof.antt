@@ -15,40 +15,31 @@ use Rattle.log.proofs.begun.Reads as begun-reads
 use Rattle.log_first.proofs.open_run.Reads as open-run-reads
 use Rattle.log_first.proofs.refuse.Reads as refuse-reads
 
--- src/lib.rt:170:22
 refuse-requires : tie.Need-refuse-requires
 refuse-requires c κs = search needs
 
--- src/lib.rt:170:9
 begun-requires : tie.Need-begun-requires
 begun-requires c κs = search needs
 
--- src/lib.rt:170:9
 same-length : tie.Need-same-length
 same-length c = search needs
 
--- src/lib.rt:170:9
 returns : tie.Need-returns
 returns c = let p = c .before .before .before .before .before .before .before .before .pre in
     first-held _ _ _ (c .before .before .before .refuse .ensures) (c .begun .ensures) (p .under) (λ l s en. long-told rules.fresh _ l (ended-itself en) (s .long (c .before .before .before .before .before .if1 .taken)))
 
--- src/lib.rt:172:20
 slice-aggregate-open-run : tie.Need-slice-aggregate-open-run
 slice-aggregate-open-run c = sym (length-take-le _ _ (omega (arith, c .before .before .before .before .pre .places)))
 
--- src/lib.rt:172:11
 open-run-requires : tie.Need-open-run-requires
 open-run-requires c κs = search needs
 
--- src/lib.rt:172:5
 begun-requires-2 : tie.Need-begun-requires-2
 begun-requires-2 c κs = search needs
 
--- src/lib.rt:165:1
 same-length-2 : tie.Need-same-length-2
 same-length-2 c = search needs
 
--- src/lib.rt:165:1
 returns-2 : tie.Need-returns-2
 returns-2 c = let p = c .before .before .before .before .before .before .before .before .before .pre in
     first-held _ _ _ (c .before .before .before .open-run .ensures) (c .begun2 .ensures) (p .under) (λ l s en. first-told _ l ∙ ap (rules.lineTold rules.fresh 1) (s .small (c .before .before .before .before .before .before .if1 .left)))

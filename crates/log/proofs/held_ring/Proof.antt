@@ -17,40 +17,31 @@ use Rattle.log.proofs.held_ring.Lts as lts
 use Rattle.log_ring.proofs.ring_piece.Reads as ring-piece-reads
 use Rattle.log_text.proofs.put_answer.Reads as put-answer-reads
 
--- src/lib.rt:181:37
 add-put-answer : tie.Need-add-put-answer
 add-put-answer c = search needs
 
--- src/lib.rt:181:13
 put-answer-requires : tie.Need-put-answer-requires
 put-answer-requires c κs = omega (arith, c .before .before .before .before .pre .0 .room, answer-short (c .before .before .before .before .args .lines + 1) (Refused NotAForm) (omega (arith, c .before .before .before .before .pre .0 .under)))
 
--- src/lib.rt:187:20
 add-t16 : tie.Need-add-t16
 add-t16 c = search needs
 
--- src/lib.rt:190:9
 same-length : tie.Need-same-length
 same-length c = search needs
 
--- src/lib.rt:190:9
 returns : tie.Need-returns
 returns c = let p = c .before .before .before .before .before .before .before .pre in let a = c .before .before .before .before .before .before .before .args in
     long-held (rules.onRing (view.state (a .ring)) (a .moves)) _ (c .before .before .before .before .if1 .taken) (p .0 .under) refl refl (c .before .before .put-answer .ensures) (answer-short (a .lines + 1) (Refused NotAForm) (omega (arith, p .0 .under))) (record { sound = (p .1 .0, omega (arith, p .1 .1)); begun = tt; empty = refl })
 
--- src/lib.rt:192:44
 slice-aggregate-ring-piece : tie.Need-slice-aggregate-ring-piece
 slice-aggregate-ring-piece c = sym (length-take-le _ _ (omega (arith, c .before .before .before .before .pre .0 .places)))
 
--- src/lib.rt:192:9
 ring-piece-requires : tie.Need-ring-piece-requires
 ring-piece-requires c κs = let p = c .before .before .before .before .before .pre in record { sound = p .1 .0; few = p .1 .1; most = omega (arith, p .0 .under); inside = omega arith; room = omega (arith, p .0 .room, length-take (c .before .before .before .before .before .args .len) (c .before .before .before .before .before .args .line .now)) }
 
--- src/lib.rt:176:1
 same-length-2 : tie.Need-same-length-2
 same-length-2 c = search needs
 
--- src/lib.rt:176:1
 returns-2 : tie.Need-returns-2
 returns-2 c = let p = c .before .before .before .before .before .before .before .before .before .pre in let a = c .before .before .before .before .before .before .before .before .before .args in
     let u = c .before .before .before .ring-piece .ensures in

@@ -7,19 +7,15 @@ use Rattle.log.proofs.hold_rest.Reads as reads
 use Rattle.log.proofs.hold_rest.Lts as lts
 use Rattle.log_lines.proofs.hold.Reads as hold-reads
 
--- src/lib.rt:67:9
 returns : tie.Need-returns
 returns c = full-rest _ _ _ _ (c .if1 .taken)
 
--- src/lib.rt:69:5
 hold-requires : tie.Need-hold-requires
 hold-requires c κs = search needs
 
--- src/lib.rt:62:1
 same-length : tie.Need-same-length
 same-length c = search needs
 
--- src/lib.rt:62:1
 returns-2 : tie.Need-returns-2
 returns-2 c = let p = c .before .before .before .before .before .before .before .pre in let a = c .before .before .before .before .before .before .before .args in held-rest (a .lines) (a .next) (a .piece .now) (a .line .now) _ _ (p .2) (omega arith) (p .0) (p .1) (c .before .before .hold .ensures)
 

@@ -12,59 +12,45 @@ use Rattle.log_end.proofs.put_counts.Lts as lts
 use Rattle.decimal.proofs.put_word.Reads as put-word-reads
 use Rattle.log_text.proofs.put_item.Reads as put-item-reads
 
--- src/lib.rt:20:31
 slice-aggregate-put-item : tie.Need-slice-aggregate-put-item
 slice-aggregate-put-item c = search needs
 
--- src/lib.rt:20:9
 put-item-requires : tie.Need-put-item-requires
 put-item-requires c κs = omega (arith, c .before .before .before .pre, item-short (bytes "(end (boards ") (c .before .before .before .args .n) (omega arith) (omega (arith, c .before .before .before .good)))
 
--- src/lib.rt:21:30
 slice-aggregate-put-item-2 : tie.Need-slice-aggregate-put-item-2
 slice-aggregate-put-item-2 c = search needs
 
--- src/lib.rt:21:9
 put-item-requires-2 : tie.Need-put-item-requires-2
 put-item-requires-2 c κs = omega (arith, c .before .before .before .before .before .before .before .before .pre, item-short (bytes "(end (boards ") (c .before .before .before .before .before .before .before .before .args .n) (omega arith) (omega (arith, c .before .before .before .before .before .before .before .before .good)), item-short (bytes ") (holder ") (c .before .before .before .before .before .before .before .before .args .pos) (omega arith) (omega (arith, c .before .before .before .before .before .before .before .before .good)), c .before .before .before .before .put-item .kept .0, c .before .before .before .before .put-item .ensures .0)
 
--- src/lib.rt:22:30
 slice-aggregate-put-item-3 : tie.Need-slice-aggregate-put-item-3
 slice-aggregate-put-item-3 c = search needs
 
--- src/lib.rt:22:9
 put-item-requires-3 : tie.Need-put-item-requires-3
 put-item-requires-3 c κs = omega (arith, c .before .before .before .before .before .before .before .before .before .before .before .before .before .pre, item-short (bytes "(end (boards ") (c .before .before .before .before .before .before .before .before .before .before .before .before .before .args .n) (omega arith) (omega (arith, c .before .before .before .before .before .before .before .before .before .before .before .before .before .good)), item-short (bytes ") (holder ") (c .before .before .before .before .before .before .before .before .before .before .before .before .before .args .pos) (omega arith) (omega (arith, c .before .before .before .before .before .before .before .before .before .before .before .before .before .good)), item-short (bytes ") (moves ") (c .before .before .before .before .before .before .before .before .before .before .before .before .before .args .moves) (omega arith) (omega (arith, c .before .before .before .before .before .before .before .before .before .before .before .before .before .good)), c .before .before .before .before .before .before .before .before .before .put-item .kept .0, c .before .before .before .before .before .before .before .before .before .put-item .ensures .0, c .before .before .before .before .put-item2 .kept .0, c .before .before .before .before .put-item2 .ensures .0)
 
--- src/lib.rt:23:30
 slice-aggregate-put-item-4 : tie.Need-slice-aggregate-put-item-4
 slice-aggregate-put-item-4 c = search needs
 
--- src/lib.rt:23:9
 put-item-requires-4 : tie.Need-put-item-requires-4
 put-item-requires-4 c κs = omega (arith, c .before .before .before .before .before .before .before .before .before .before .before .before .before .before .before .before .before .before .pre, item-short (bytes "(end (boards ") (c .before .before .before .before .before .before .before .before .before .before .before .before .before .before .before .before .before .before .args .n) (omega arith) (omega (arith, c .before .before .before .before .before .before .before .before .before .before .before .before .before .before .before .before .before .before .good)), item-short (bytes ") (holder ") (c .before .before .before .before .before .before .before .before .before .before .before .before .before .before .before .before .before .before .args .pos) (omega arith) (omega (arith, c .before .before .before .before .before .before .before .before .before .before .before .before .before .before .before .before .before .before .good)), item-short (bytes ") (moves ") (c .before .before .before .before .before .before .before .before .before .before .before .before .before .before .before .before .before .before .args .moves) (omega arith) (omega (arith, c .before .before .before .before .before .before .before .before .before .before .before .before .before .before .before .before .before .before .good)), item-short (bytes ") (flight ") (c .before .before .before .before .before .before .before .before .before .before .before .before .before .before .before .before .before .before .args .flight) (omega arith) (omega (arith, c .before .before .before .before .before .before .before .before .before .before .before .before .before .before .before .before .before .before .good)), c .before .before .before .before .before .before .before .before .before .before .before .before .before .before .put-item .kept .0, c .before .before .before .before .before .before .before .before .before .before .before .before .before .before .put-item .ensures .0, c .before .before .before .before .before .before .before .before .before .put-item2 .kept .0, c .before .before .before .before .before .before .before .before .before .put-item2 .ensures .0, c .before .before .before .before .put-item3 .kept .0, c .before .before .before .before .put-item3 .ensures .0)
 
--- src/lib.rt:24:30
 slice-aggregate-put-item-5 : tie.Need-slice-aggregate-put-item-5
 slice-aggregate-put-item-5 c = search needs
 
--- src/lib.rt:24:9
 put-item-requires-5 : tie.Need-put-item-requires-5
 put-item-requires-5 c κs = omega (arith, c .before .before .before .before .before .before .before .before .before .before .before .before .before .before .before .before .before .before .before .before .before .before .before .pre, item-short (bytes "(end (boards ") (c .before .before .before .before .before .before .before .before .before .before .before .before .before .before .before .before .before .before .before .before .before .before .before .args .n) (omega arith) (omega (arith, c .before .before .before .before .before .before .before .before .before .before .before .before .before .before .before .before .before .before .before .before .before .before .before .good)), item-short (bytes ") (holder ") (c .before .before .before .before .before .before .before .before .before .before .before .before .before .before .before .before .before .before .before .before .before .before .before .args .pos) (omega arith) (omega (arith, c .before .before .before .before .before .before .before .before .before .before .before .before .before .before .before .before .before .before .before .before .before .before .before .good)), item-short (bytes ") (moves ") (c .before .before .before .before .before .before .before .before .before .before .before .before .before .before .before .before .before .before .before .before .before .before .before .args .moves) (omega arith) (omega (arith, c .before .before .before .before .before .before .before .before .before .before .before .before .before .before .before .before .before .before .before .before .before .before .before .good)), item-short (bytes ") (flight ") (c .before .before .before .before .before .before .before .before .before .before .before .before .before .before .before .before .before .before .before .before .before .before .before .args .flight) (omega arith) (omega (arith, c .before .before .before .before .before .before .before .before .before .before .before .before .before .before .before .before .before .before .before .before .before .before .before .good)), item-short (bytes ") (black ") (c .before .before .before .before .before .before .before .before .before .before .before .before .before .before .before .before .before .before .before .before .before .before .before .args .black) (omega arith) (omega (arith, c .before .before .before .before .before .before .before .before .before .before .before .before .before .before .before .before .before .before .before .before .before .before .before .good)), c .before .before .before .before .before .before .before .before .before .before .before .before .before .before .before .before .before .before .before .put-item .kept .0, c .before .before .before .before .before .before .before .before .before .before .before .before .before .before .before .before .before .before .before .put-item .ensures .0, c .before .before .before .before .before .before .before .before .before .before .before .before .before .before .put-item2 .kept .0, c .before .before .before .before .before .before .before .before .before .before .before .before .before .before .put-item2 .ensures .0, c .before .before .before .before .before .before .before .before .before .put-item3 .kept .0, c .before .before .before .before .before .before .before .before .before .put-item3 .ensures .0, c .before .before .before .before .put-item4 .kept .0, c .before .before .before .before .put-item4 .ensures .0)
 
--- src/lib.rt:25:22
 slice-aggregate-put-word : tie.Need-slice-aggregate-put-word
 slice-aggregate-put-word c = search needs
 
--- src/lib.rt:25:5
 put-word-requires : tie.Need-put-word-requires
 put-word-requires c κs = omega (arith, c .before .before .before .before .before .before .before .before .before .before .before .before .before .before .before .before .before .before .before .before .before .before .before .before .before .before .before .before .pre, item-short (bytes "(end (boards ") (c .before .before .before .before .before .before .before .before .before .before .before .before .before .before .before .before .before .before .before .before .before .before .before .before .before .before .before .before .args .n) (omega arith) (omega (arith, c .before .before .before .before .before .before .before .before .before .before .before .before .before .before .before .before .before .before .before .before .before .before .before .before .before .before .before .before .good)), item-short (bytes ") (holder ") (c .before .before .before .before .before .before .before .before .before .before .before .before .before .before .before .before .before .before .before .before .before .before .before .before .before .before .before .before .args .pos) (omega arith) (omega (arith, c .before .before .before .before .before .before .before .before .before .before .before .before .before .before .before .before .before .before .before .before .before .before .before .before .before .before .before .before .good)), item-short (bytes ") (moves ") (c .before .before .before .before .before .before .before .before .before .before .before .before .before .before .before .before .before .before .before .before .before .before .before .before .before .before .before .before .args .moves) (omega arith) (omega (arith, c .before .before .before .before .before .before .before .before .before .before .before .before .before .before .before .before .before .before .before .before .before .before .before .before .before .before .before .before .good)), item-short (bytes ") (flight ") (c .before .before .before .before .before .before .before .before .before .before .before .before .before .before .before .before .before .before .before .before .before .before .before .before .before .before .before .before .args .flight) (omega arith) (omega (arith, c .before .before .before .before .before .before .before .before .before .before .before .before .before .before .before .before .before .before .before .before .before .before .before .before .before .before .before .before .good)), item-short (bytes ") (black ") (c .before .before .before .before .before .before .before .before .before .before .before .before .before .before .before .before .before .before .before .before .before .before .before .before .before .before .before .before .args .black) (omega arith) (omega (arith, c .before .before .before .before .before .before .before .before .before .before .before .before .before .before .before .before .before .before .before .before .before .before .before .before .before .before .before .before .good)), c .before .before .before .before .before .before .before .before .before .before .before .before .before .before .before .before .before .before .before .before .before .before .before .before .put-item .kept .0, c .before .before .before .before .before .before .before .before .before .before .before .before .before .before .before .before .before .before .before .before .before .before .before .before .put-item .ensures .0, c .before .before .before .before .before .before .before .before .before .before .before .before .before .before .before .before .before .before .before .put-item2 .kept .0, c .before .before .before .before .before .before .before .before .before .before .before .before .before .before .before .before .before .before .before .put-item2 .ensures .0, c .before .before .before .before .before .before .before .before .before .before .before .before .before .before .put-item3 .kept .0, c .before .before .before .before .before .before .before .before .before .before .before .before .before .before .put-item3 .ensures .0, c .before .before .before .before .before .before .before .before .before .put-item4 .kept .0, c .before .before .before .before .before .before .before .before .before .put-item4 .ensures .0, c .before .before .before .before .put-item5 .kept .0, c .before .before .before .before .put-item5 .ensures .0)
 
--- src/lib.rt:16:1
 same-length : tie.Need-same-length
 same-length c = search needs
 
--- src/lib.rt:16:1
 returns : tie.Need-returns
 returns c = let a = c .before .before .before .before .before .before .before .before .before .before .before .before .before .before .before .before .before .before .before .before .before .before .before .before .before .before .before .before .before .before .before .args in ((item-wrote (bytes "(end (boards ") (a .n) (bytes ") (holder " ++ (decimal (a .pos) ++ (bytes ") (moves " ++ (decimal (a .moves) ++ (bytes ") (flight " ++ (decimal (a .flight) ++ (bytes ") (black " ++ (decimal (a .black) ++ bytes "))\n")))))))) (a .out .now) (a .at) (c .before .before .before .before .before .before .before .before .before .before .before .before .before .before .before .before .before .before .before .before .before .before .before .before .before .before .before .put-item .ensures) (item-wrote (bytes ") (holder ") (a .pos) (bytes ") (moves " ++ (decimal (a .moves) ++ (bytes ") (flight " ++ (decimal (a .flight) ++ (bytes ") (black " ++ (decimal (a .black) ++ bytes "))\n")))))) _ _ (c .before .before .before .before .before .before .before .before .before .before .before .before .before .before .before .before .before .before .before .before .before .before .put-item2 .ensures) (item-wrote (bytes ") (moves ") (a .moves) (bytes ") (flight " ++ (decimal (a .flight) ++ (bytes ") (black " ++ (decimal (a .black) ++ bytes "))\n")))) _ _ (c .before .before .before .before .before .before .before .before .before .before .before .before .before .before .before .before .before .put-item3 .ensures) (item-wrote (bytes ") (flight ") (a .flight) (bytes ") (black " ++ (decimal (a .black) ++ bytes "))\n")) _ _ (c .before .before .before .before .before .before .before .before .before .before .before .before .put-item4 .ensures) (item-wrote (bytes ") (black ") (a .black) (bytes "))\n") _ _ (c .before .before .before .before .before .before .before .put-item5 .ensures) (c .before .before .put-word .ensures)))))), omega (arith, item-length (bytes "(end (boards ") (a .n) (bytes ") (holder " ++ (decimal (a .pos) ++ (bytes ") (moves " ++ (decimal (a .moves) ++ (bytes ") (flight " ++ (decimal (a .flight) ++ (bytes ") (black " ++ (decimal (a .black) ++ bytes "))\n")))))))), item-short (bytes "(end (boards ") (a .n) (omega arith) (omega (arith, c .before .before .before .before .before .before .before .before .before .before .before .before .before .before .before .before .before .before .before .before .before .before .before .before .before .before .before .before .before .before .before .good)), item-length (bytes ") (holder ") (a .pos) (bytes ") (moves " ++ (decimal (a .moves) ++ (bytes ") (flight " ++ (decimal (a .flight) ++ (bytes ") (black " ++ (decimal (a .black) ++ bytes "))\n")))))), item-short (bytes ") (holder ") (a .pos) (omega arith) (omega (arith, c .before .before .before .before .before .before .before .before .before .before .before .before .before .before .before .before .before .before .before .before .before .before .before .before .before .before .before .before .before .before .before .good)), item-length (bytes ") (moves ") (a .moves) (bytes ") (flight " ++ (decimal (a .flight) ++ (bytes ") (black " ++ (decimal (a .black) ++ bytes "))\n")))), item-short (bytes ") (moves ") (a .moves) (omega arith) (omega (arith, c .before .before .before .before .before .before .before .before .before .before .before .before .before .before .before .before .before .before .before .before .before .before .before .before .before .before .before .before .before .before .before .good)), item-length (bytes ") (flight ") (a .flight) (bytes ") (black " ++ (decimal (a .black) ++ bytes "))\n")), item-short (bytes ") (flight ") (a .flight) (omega arith) (omega (arith, c .before .before .before .before .before .before .before .before .before .before .before .before .before .before .before .before .before .before .before .before .before .before .before .before .before .before .before .before .before .before .before .good)), item-length (bytes ") (black ") (a .black) (bytes "))\n"), item-short (bytes ") (black ") (a .black) (omega arith) (omega (arith, c .before .before .before .before .before .before .before .before .before .before .before .before .before .before .before .before .before .before .before .before .before .before .before .before .before .before .before .before .before .before .before .good))))
 

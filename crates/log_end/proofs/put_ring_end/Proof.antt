@@ -7,27 +7,21 @@ use Rattle.log_end.proofs.put_counts.Reads as put-counts-reads
 use Rattle.ring.proofs.Ring.black_nodes.Reads as black-nodes-reads
 use Rattle.ring.proofs.Ring.in_transit.Reads as in-transit-reads
 
--- src/lib.rt:32:9
 in-transit-requires : tie.Need-in-transit-requires
 in-transit-requires c κs = search needs
 
--- src/lib.rt:33:9
 black-nodes-requires : tie.Need-black-nodes-requires
 black-nodes-requires c κs = search needs
 
--- src/lib.rt:41:9
 cast-put-counts : tie.Need-cast-put-counts
 cast-put-counts c = search needs
 
--- src/lib.rt:34:5
 put-counts-requires : tie.Need-put-counts-requires
 put-counts-requires c κs = search needs
 
--- src/lib.rt:28:1
 same-length : tie.Need-same-length
 same-length c = search needs
 
--- src/lib.rt:28:1
 returns : tie.Need-returns
 returns c = let a = c .before .before .before .before .before .before .before .args in
     let u = c .before .before .put-counts .ensures in

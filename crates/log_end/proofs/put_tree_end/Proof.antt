@@ -19,54 +19,42 @@ use Rattle.log_text.proofs.put_item.Reads as put-item-reads
 use Rattle.tree.proofs.Tree.acks_in_transit.Reads as acks-in-transit-reads
 use Rattle.tree_writer.proofs.put_tree.Reads as put-tree-reads
 
--- src/lib.rt:50:9
 acks-in-transit-requires : tie.Need-acks-in-transit-requires
 acks-in-transit-requires c κs = search needs
 
--- src/lib.rt:53:31
 slice-aggregate-put-item : tie.Need-slice-aggregate-put-item
 slice-aggregate-put-item c = search needs
 
--- src/lib.rt:53:9
 put-item-requires : tie.Need-put-item-requires
 put-item-requires c κs = omega (arith, c .before .before .before .before .before .pre .0, item-short (bytes "(end (boards ") (c .before .before .before .before .before .args .tree .n) (omega arith) (search needs))
 
--- src/lib.rt:54:30
 slice-aggregate-put-word : tie.Need-slice-aggregate-put-word
 slice-aggregate-put-word c = search needs
 
--- src/lib.rt:54:9
 put-word-requires : tie.Need-put-word-requires
 put-word-requires c κs = omega (arith, c .before .before .before .before .before .before .before .before .before .before .pre .0, item-short (bytes "(end (boards ") (c .before .before .before .before .before .before .before .before .before .before .args .tree .n) (omega arith) (search needs), c .before .before .before .before .put-item .kept .0, c .before .before .before .before .put-item .ensures .0)
 
--- src/lib.rt:55:9
 put-tree-requires : tie.Need-put-tree-requires
 put-tree-requires c κs = let s = c .before .before .before .before .before .before .before .before .before .before .before .before .before .before .before .pre .1 in
     (s .shape .engager-places, omega (arith, s .root-in, s .nodes), omega (arith, c .before .before .before .before .before .before .before .before .before .before .before .before .before .before .before .pre .0, item-short (bytes "(end (boards ") (c .before .before .before .before .before .before .before .before .before .before .before .before .before .before .before .args .tree .n) (omega arith) (search needs), c .before .before .before .before .before .before .before .before .before .put-item .kept .0, c .before .before .before .before .before .before .before .before .before .put-item .ensures .0, c .before .before .before .before .put-word .kept .0, c .before .before .before .before .put-word .ensures .0, tree-short (treeView.state (c .before .before .before .before .before .before .before .before .before .before .before .before .before .before .before .args .tree)) s))
 
--- src/lib.rt:56:30
 slice-aggregate-put-item-2 : tie.Need-slice-aggregate-put-item-2
 slice-aggregate-put-item-2 c = search needs
 
--- src/lib.rt:56:9
 put-item-requires-2 : tie.Need-put-item-requires-2
 put-item-requires-2 c κs = let s = c .before .before .before .before .before .before .before .before .before .before .before .before .before .before .before .before .before .before .before .before .pre .1 in
     omega (arith, c .before .before .before .before .before .before .before .before .before .before .before .before .before .before .before .before .before .before .before .before .pre .0, item-short (bytes "(end (boards ") (c .before .before .before .before .before .before .before .before .before .before .before .before .before .before .before .before .before .before .before .before .args .tree .n) (omega arith) (search needs), item-short (bytes ") (acks ") (c .before .before .before .before .before .before .before .before .before .before .before .before .before .before .before .before .before .before .acks-in-transit .result) (omega arith) (search needs), c .before .before .before .before .before .before .before .before .before .before .before .before .before .before .put-item .kept .0, c .before .before .before .before .before .before .before .before .before .before .before .before .before .before .put-item .ensures .0, c .before .before .before .before .before .before .before .before .before .put-word .kept .0, c .before .before .before .before .before .before .before .before .before .put-word .ensures .0, c .before .before .before .before .put-tree .kept .0, c .before .before .before .before .put-tree .ensures .0, tree-short (treeView.state (c .before .before .before .before .before .before .before .before .before .before .before .before .before .before .before .before .before .before .before .before .args .tree)) s)
 
--- src/lib.rt:57:22
 slice-aggregate-put-word-2 : tie.Need-slice-aggregate-put-word-2
 slice-aggregate-put-word-2 c = search needs
 
--- src/lib.rt:57:5
 put-word-requires-2 : tie.Need-put-word-requires-2
 put-word-requires-2 c κs = let s = c .before .before .before .before .before .before .before .before .before .before .before .before .before .before .before .before .before .before .before .before .before .before .before .before .before .pre .1 in
     omega (arith, c .before .before .before .before .before .before .before .before .before .before .before .before .before .before .before .before .before .before .before .before .before .before .before .before .before .pre .0, item-short (bytes "(end (boards ") (c .before .before .before .before .before .before .before .before .before .before .before .before .before .before .before .before .before .before .before .before .before .before .before .before .before .args .tree .n) (omega arith) (search needs), item-short (bytes ") (acks ") (c .before .before .before .before .before .before .before .before .before .before .before .before .before .before .before .before .before .before .before .before .before .before .before .acks-in-transit .result) (omega arith) (search needs), c .before .before .before .before .before .before .before .before .before .before .before .before .before .before .before .before .before .before .before .put-item .kept .0, c .before .before .before .before .before .before .before .before .before .before .before .before .before .before .before .before .before .before .before .put-item .ensures .0, c .before .before .before .before .before .before .before .before .before .before .before .before .before .before .put-word .kept .0, c .before .before .before .before .before .before .before .before .before .before .before .before .before .before .put-word .ensures .0, c .before .before .before .before .before .before .before .before .before .put-tree .kept .0, c .before .before .before .before .before .before .before .before .before .put-tree .ensures .0, c .before .before .before .before .put-item2 .kept .0, c .before .before .before .before .put-item2 .ensures .0, tree-short (treeView.state (c .before .before .before .before .before .before .before .before .before .before .before .before .before .before .before .before .before .before .before .before .before .before .before .before .before .args .tree)) s)
 
--- src/lib.rt:46:1
 same-length : tie.Need-same-length
 same-length c = search needs
 
--- src/lib.rt:46:1
 returns : tie.Need-returns
 returns c = let a = c .before .before .before .before .before .before .before .before .before .before .before .before .before .before .before .before .before .before .before .before .before .before .before .before .before .before .before .before .args in
     let s = treeView.state (a .tree) in

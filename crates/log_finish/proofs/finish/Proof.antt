@@ -24,58 +24,45 @@ use Rattle.log_end.proofs.put_tree_end.Reads as put-tree-end-reads
 use Rattle.log_finish.proofs.put_cut.Reads as put-cut-reads
 use Rattle.log_text.proofs.put_answer.Reads as put-answer-reads
 
--- src/lib.rt:36:36
 enum-told : tie.Need-enum-told
 enum-told c = search needs
 
--- src/lib.rt:36:25
 put-answer-requires : tie.Need-put-answer-requires
 put-answer-requires c κs = omega (arith, c .before .before .before .before .before .pre .1, answer-short 1 (Refused NotAForm) (omega arith))
 
--- src/lib.rt:38:30
 enum-told-2 : tie.Need-enum-told-2
 enum-told-2 c = search needs
 
--- src/lib.rt:38:17
 put-cut-requires : tie.Need-put-cut-requires
 put-cut-requires c κs = search needs
 
--- src/lib.rt:40:13
 put-ring-end-requires : tie.Need-put-ring-end-requires
 put-ring-end-requires c κs = search needs
 
--- src/lib.rt:43:30
 enum-told-3 : tie.Need-enum-told-3
 enum-told-3 c = search needs
 
--- src/lib.rt:43:17
 put-cut-requires-2 : tie.Need-put-cut-requires-2
 put-cut-requires-2 c κs = search needs
 
--- src/lib.rt:45:13
 put-tree-end-requires : tie.Need-put-tree-end-requires
 put-tree-end-requires c κs = let p = c .before .before .before .before .before .before .before .before .before .before .pre in let l = c .before .before .before .before .before .before .before .before .before .before .args .log in
     (omega (arith, p .1, c .before .before .before .before .put-cut2 .ensures .1, c .before .before .before .before .put-cut2 .kept), subst (λ (x : code.Stage). SoundStage (stageBy x (l .ring) (l .moves) (l .tree)) (l .lines)) (c .before .before .before .before .before .before .enum-told3 .given .1) (p .0 .sound))
 
--- src/lib.rt:47:24
 enum-told-4 : tie.Need-enum-told-4
 enum-told-4 c = search needs
 
--- src/lib.rt:30:1
 same-length : tie.Need-same-length
 same-length c = search needs
 
--- src/lib.rt:30:1
 returns : tie.Need-returns
 returns c = let p = c .before .before .before .before .before .before .before .before .pre in let l = c .before .before .before .before .before .before .before .before .args .log in let line = c .before .before .before .before .before .before .before .before .args .line .now in
     let e = ap (λ (x : code.Stage). stageBy x (l .ring) (l .moves) (l .tree)) (c .before .before .before .before .enum-told .given .1) in
     finished l line e (fresh-end line (l .lines) (l .len) (p .0 .places) (p .0 .part)) (c .before .before .put-answer .ensures) (omega (arith, p .1, c .before .before .put-answer .ensures .0, answer-short 1 (Refused NotAForm) (omega arith)))
 
--- src/lib.rt:30:1
 same-length-2 : tie.Need-same-length-2
 same-length-2 c = search needs
 
--- src/lib.rt:30:1
 returns-2 : tie.Need-returns-2
 returns-2 c = let p = c .before .before .before .before .before .before .before .before .before .before .before .before .before .pre in let l = c .before .before .before .before .before .before .before .before .before .before .before .before .before .args .log in let line = c .before .before .before .before .before .before .before .before .before .before .before .before .before .args .line .now in
     let e = ap (λ (x : code.Stage). stageBy x (l .ring) (l .moves) (l .tree)) (c .before .before .before .before .before .before .before .before .before .enum-told2 .given .1) in
@@ -84,11 +71,9 @@ returns-2 c = let p = c .before .before .before .before .before .before .before 
     finished l line e (run-end line (l .lines) (l .len) (p .0 .places) (p .0 .part) (rules.onRing (ringView.state (l .ring)) (l .moves)) refl)
     (wrote-both _ _ (c .before .before .before .before .before .before .before .before .before .before .before .before .before .args .out .now) 0 (u .0) (v .0)) (omega (arith, p .1, u .1, v .0 .0, v .1))
 
--- src/lib.rt:30:1
 same-length-3 : tie.Need-same-length-3
 same-length-3 c = search needs
 
--- src/lib.rt:30:1
 returns-3 : tie.Need-returns-3
 returns-3 c = let p = c .before .before .before .before .before .before .before .before .before .before .before .before .before .pre in let l = c .before .before .before .before .before .before .before .before .before .before .before .before .before .args .log in let line = c .before .before .before .before .before .before .before .before .before .before .before .before .before .args .line .now in
     let e = ap (λ (x : code.Stage). stageBy x (l .ring) (l .moves) (l .tree)) (c .before .before .before .before .before .before .before .before .before .enum-told3 .given .1) in
@@ -97,7 +82,6 @@ returns-3 c = let p = c .before .before .before .before .before .before .before 
     finished l line e (run-end line (l .lines) (l .len) (p .0 .places) (p .0 .part) (rules.onTree (treeView.state (l .tree))) refl)
     (wrote-both _ _ (c .before .before .before .before .before .before .before .before .before .before .before .before .before .args .out .now) 0 (u .0) (v .0)) (omega (arith, p .1, u .1, v .0 .0, v .1))
 
--- src/lib.rt:30:1
 returns-4 : tie.Need-returns-4
 unfolding put
 returns-4 c = let l = c .before .before .before .before .args .log in let line = c .before .before .before .before .args .line .now in

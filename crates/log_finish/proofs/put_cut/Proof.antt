@@ -14,29 +14,23 @@ use Rattle.log_finish.proofs.put_cut.Reads as reads
 use Rattle.log_finish.proofs.put_cut.Lts as lts
 use Rattle.log_text.proofs.put_answer.Reads as put-answer-reads
 
--- src/lib.rt:21:9
 returns : tie.Need-returns
 unfolding put
 returns c = let a = c .before .before .args in let e = no-cut (a .lines) (a .len) (c .if1 .taken) in ((omega (arith, ap length e), rw e), omega arith)
 
--- src/lib.rt:24:9
 returns-2 : tie.Need-returns-2
 unfolding put
 returns-2 c = let a = c .before .before .before .args in let e = full-cut (a .lines) (a .len) (c .if2 .taken) (c .before .if1 .left) in ((omega (arith, ap length e), rw e), omega arith)
 
--- src/lib.rt:26:24
 add-put-answer : tie.Need-add-put-answer
 add-put-answer c = search needs
 
--- src/lib.rt:26:5
 put-answer-requires : tie.Need-put-answer-requires
 put-answer-requires c κs = let a = c .before .before .before .before .args in omega (arith, answer-short (a .lines + 1) (Refused NotAForm) (omega arith))
 
--- src/lib.rt:16:1
 same-length : tie.Need-same-length
 same-length c = search needs
 
--- src/lib.rt:16:1
 returns-3 : tie.Need-returns-3
 returns-3 c = let a = c .before .before .before .before .before .before .before .args in
     let e = some-cut (a .lines) (a .len) (omega arith) (c .before .before .before .before .before .if1 .left) in

@@ -14,67 +14,51 @@ use Rattle.log_first.proofs.refuse.Reads as refuse-reads
 use Rattle.log_text.proofs.put_answer.Reads as put-answer-reads
 use Rattle.ring.proofs.Ring.start.Reads as start-reads
 
--- src/lib.rt:67:9
 refuse-requires : tie.Need-refuse-requires
 refuse-requires c κs = search needs
 
--- src/lib.rt:67:9
 same-length : tie.Need-same-length
 same-length c = search needs
 
--- src/lib.rt:67:9
 returns : tie.Need-returns
 returns c = rw (no-nodes (c .before .before .before .before .before .before .args .f) (c .before .before .before .before .if1 .taken)) (c .before .before .refuse .ensures)
 
--- src/lib.rt:70:9
 refuse-requires-2 : tie.Need-refuse-requires-2
 refuse-requires-2 c κs = search needs
 
--- src/lib.rt:70:9
 same-length-2 : tie.Need-same-length-2
 same-length-2 c = search needs
 
--- src/lib.rt:70:9
 returns-2 : tie.Need-returns-2
 returns-2 c = rw (many-nodes (c .before .before .before .before .before .before .before .args .f) (c .before .before .before .before .if2 .taken)) (c .before .before .refuse2 .ensures)
 
--- src/lib.rt:73:9
 refuse-requires-3 : tie.Need-refuse-requires-3
 refuse-requires-3 c κs = search needs
 
--- src/lib.rt:73:9
 same-length-3 : tie.Need-same-length-3
 same-length-3 c = search needs
 
--- src/lib.rt:73:9
 returns-3 : tie.Need-returns-3
 returns-3 c = rw (unknown-node (c .before .before .before .before .before .before .before .before .before .args .f) (omega arith) (c .before .before .before .before .before .before .if2 .left) (c .before .before .before .before .if3 .taken)) (c .before .before .refuse3 .ensures)
 
--- src/lib.rt:76:28
 array-share-prefix-flags : tie.Need-array-share-prefix-flags
 array-share-prefix-flags c = search needs
 
--- src/lib.rt:76:28
 slice-aggregate-start : tie.Need-slice-aggregate-start
 slice-aggregate-start c = sym (length-take-le _ _ (omega (arith, c .before .before .before .before .before .before .before .pre .1 .places)))
 
--- src/lib.rt:76:9
 start-requires : tie.Need-start-requires
 start-requires c κs = search needs
 
--- src/lib.rt:78:9
 blank-tree-requires : tie.Need-blank-tree-requires
 blank-tree-requires c κs = search needs
 
--- src/lib.rt:79:9
 put-answer-requires : tie.Need-put-answer-requires
 put-answer-requires c κs = omega (arith, answer-short 1 Accepted (omega arith))
 
--- src/lib.rt:61:1
 same-length-4 : tie.Need-same-length-4
 same-length-4 c = search needs
 
--- src/lib.rt:61:1
 returns-4 : tie.Need-returns-4
 returns-4 c = ring-begins (c .before .before .before .before .before .before .before .before .before .before .before .before .before .before .args .f) (omega arith) (c .before .before .before .before .before .before .before .before .before .before .before .if2 .left) (c .before .before .before .before .before .before .before .before .before .before .before .before .before .before .pre .1) (omega arith) (c .before .before .before .before .before .before .start .ensures) refl (c .before .before .put-answer .ensures)
 

@@ -11,23 +11,18 @@ use Rattle.log_first.proofs.blank_ring.Reads as blank-ring-reads
 use Rattle.log_first.proofs.blank_tree.Reads as blank-tree-reads
 use Rattle.log_text.proofs.put_answer.Reads as put-answer-reads
 
--- src/lib.rt:50:9
 put-answer-requires : tie.Need-put-answer-requires
 put-answer-requires c κs = omega (arith, answer-short 1 (Refused (c .before .before .args .e)) (omega arith))
 
--- src/lib.rt:51:9
 blank-ring-requires : tie.Need-blank-ring-requires
 blank-ring-requires c κs = search needs
 
--- src/lib.rt:52:9
 blank-tree-requires : tie.Need-blank-tree-requires
 blank-tree-requires c κs = search needs
 
--- src/lib.rt:46:1
 same-length : tie.Need-same-length
 same-length c = search needs
 
--- src/lib.rt:46:1
 returns : tie.Need-returns
 returns c = record { stage = refl; wrote = c .before .before .before .before .put-answer .ensures; sound = tt; begun = tt; short = answer-short 1 (Refused (c .before .before .before .before .before .before .before .args .e)) (omega arith) }
 

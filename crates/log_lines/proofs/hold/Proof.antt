@@ -20,27 +20,21 @@ Inv-loop piece from to line₀ len k₀ i₀ line k i = (from ≤ i) × (i ≤ t
 abbrev μ-loop : tie.MeasureT-loop
 μ-loop piece from to line₀ len k₀ i₀ line k i = to - i
 
--- src/lib.rt:42:5
 loop-holds : tie.Need-loop-holds Inv-loop μ-loop
 loop-holds c = (omega arith, omega arith, omega arith, omega arith, refl, refl)
 
--- src/lib.rt:43:27
 shared-slice-read-keep : tie.Need-shared-slice-read-keep Inv-loop μ-loop
 shared-slice-read-keep c = omega arith
 
--- src/lib.rt:43:9
 keep-requires : tie.Need-keep-requires Inv-loop μ-loop
 keep-requires c κs = omega arith
 
--- src/lib.rt:44:9
 add-i : tie.Need-add-i Inv-loop μ-loop
 add-i c = omega arith
 
--- src/lib.rt:42:5
 loop-less : tie.Need-loop-less Inv-loop μ-loop
 loop-less c = omega arith
 
--- src/lib.rt:42:5
 loop-again : tie.Need-loop-again Inv-loop μ-loop
 loop-again c = let l = c .before .before .before .before .before .before .loop in
     let a = c .before .before .before .before .before .before .before .before .before .args in
@@ -53,11 +47,9 @@ loop-again c = let l = c .before .before .before .before .before .before .loop i
       hold-more (l .line) (u .last .0) (a .piece .now) (l .k) (u .result) (l .i) (a .to) (search needs) (search needs) (u .ensures .1) ∙ l .inv .5,
     )
 
--- src/lib.rt:35:1
 same-length : tie.Need-same-length Inv-loop μ-loop
 same-length c = omega arith
 
--- src/lib.rt:35:1
 returns : tie.Need-returns Inv-loop μ-loop
 returns c = let l = c .before .loop in
     let a = c .before .before .before .before .args in

@@ -6,23 +6,18 @@ use Rattle.log_lines.proofs.keep.Tie as tie
 use Rattle.log_lines.proofs.keep.Reads as reads
 use Rattle.log_lines.proofs.keep.Lts as lts
 
--- src/lib.rt:28:9
 returns : tie.Need-returns
 returns c = let a = c .before .args in (omega arith, keep-full (a .line .now) (a .k) (a .b) (c .before .pre .0) (c .if1 .taken))
 
--- src/lib.rt:30:5
 slice-write-line : tie.Need-slice-write-line
 slice-write-line c = search needs
 
--- src/lib.rt:31:5
 add-result : tie.Need-add-result
 add-result c = search needs
 
--- src/lib.rt:23:1
 same-length : tie.Need-same-length
 same-length c = search needs
 
--- src/lib.rt:23:1
 returns-2 : tie.Need-returns-2
 returns-2 c = let a = c .before .args in (omega arith, keep-more (a .line .now) (a .k) (a .b) (c .before .pre .0) (omega arith))
 

@@ -16,35 +16,27 @@ Inv-loop piece from i₀ i = endAt piece i ≡ endAt piece from
 abbrev μ-loop : tie.MeasureT-loop
 μ-loop piece from i₀ i = length piece - i
 
--- src/lib.rt:13:5
 loop-holds : tie.Need-loop-holds Inv-loop μ-loop
 loop-holds c = refl
 
--- src/lib.rt:14:12
 shared-slice-read-if1 : tie.Need-shared-slice-read-if1 Inv-loop μ-loop
 shared-slice-read-if1 c = omega arith
 
--- src/lib.rt:15:20
 add-result : tie.Need-add-result Inv-loop μ-loop
 add-result c = omega arith
 
--- src/lib.rt:15:13
 returns : tie.Need-returns Inv-loop μ-loop
 returns c = sym (end-here (c .before .before .before .before .args .piece .now) (c .before .before .before .loop .i) (search needs) (c .if1 .taken)) ∙ c .before .before .before .loop .inv
 
--- src/lib.rt:17:9
 add-i : tie.Need-add-i Inv-loop μ-loop
 add-i c = omega arith
 
--- src/lib.rt:13:5
 loop-less : tie.Need-loop-less Inv-loop μ-loop
 loop-less c = omega arith
 
--- src/lib.rt:13:5
 loop-again : tie.Need-loop-again Inv-loop μ-loop
 loop-again c = sym (end-more (c .before .before .before .before .args .piece .now) (c .before .before .before .loop .i) (search needs) (c .if1 .left)) ∙ c .before .before .before .loop .inv
 
--- src/lib.rt:9:1
 returns-2 : tie.Need-returns-2 Inv-loop μ-loop
 returns-2 c = sym (end-none (c .before .before .args .piece .now) (c .before .loop .i) (search needs)) ∙ c .before .loop .inv
 

@@ -10,19 +10,15 @@ use Rattle.log_ring.proofs.formless_line.Reads as reads
 use Rattle.log_ring.proofs.formless_line.Lts as lts
 use Rattle.log_text.proofs.put_answer.Reads as put-answer-reads
 
--- src/lib.rt:147:17
 add-lines : tie.Need-add-lines
 add-lines c = search needs
 
--- src/lib.rt:148:9
 put-answer-requires : tie.Need-put-answer-requires
 put-answer-requires c κs = omega (arith, answer-short (c .before .before .before .before .args .r .lines + 1) (Refused NotAForm) (omega arith))
 
--- src/lib.rt:141:1
 same-length : tie.Need-same-length
 same-length c = search needs
 
--- src/lib.rt:141:1
 returns : tie.Need-returns
 returns c = search needs
 

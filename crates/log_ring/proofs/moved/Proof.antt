@@ -10,25 +10,20 @@ use Rattle.log_ring.proofs.moved.Reads as reads
 use Rattle.log_ring.proofs.moved.Lts as lts
 use Rattle.log_ring.proofs.moved_by.Reads as moved-by-reads
 
--- src/lib.rt:91:30
 enum-told : tie.Need-enum-told
 enum-told c = search needs
 
--- src/lib.rt:91:30
 moved-by-requires : tie.Need-moved-by-requires
 moved-by-requires c κs = search needs
 
--- src/lib.rt:92:32
 enum-told-2 : tie.Need-enum-told-2
 enum-told-2 c = search needs
 
--- src/lib.rt:87:1
 returns : tie.Need-returns
 returns c = let f = c .before .before .before .args .f in
     let e = c .moved-by .ensures in
     rw (c .before .enum-told .given .1) (e ∙ counted (isMove f) .0, subst⁻¹ (λ (n : ℕ). n ≤ 1) e (counted (isMove f) .1))
 
--- src/lib.rt:87:1
 returns-2 : tie.Need-returns-2
 returns-2 c = rw (c .enum-told2 .given .1) (uncounted (isMove (c .before .before .args .f)), omega arith)
 

@@ -10,23 +10,18 @@ use Rattle.log_ring.proofs.run_lines.Reads as run-lines-reads
 use Rattle.ring.proofs.gathered.Reads as gathered-reads
 use Rattle.ring.proofs.rest_of.Reads as rest-of-reads
 
--- src/lib.rt:233:9
 rest-of-requires : tie.Need-rest-of-requires
 rest-of-requires c κs = search needs
 
--- src/lib.rt:246:9
 run-lines-requires : tie.Need-run-lines-requires
 run-lines-requires c κs = let p = c .before .before .before .before .before .before .before .before .before .before .before .before .before .before .pre in record { sound = subst⁻¹ Sound (c .before .before .before .before .before .before .before .before .before .before .before .rest-of .ensures) (p .sound); few = p .few; most = p .most; inside = p .inside; room = p .room }
 
--- src/lib.rt:257:9
 gathered-requires : tie.Need-gathered-requires
 gathered-requires c κs = search needs
 
--- src/lib.rt:221:1
 same-length : tie.Need-same-length
 same-length c = search needs
 
--- src/lib.rt:221:1
 returns : tie.Need-returns
 returns c = let u = c .before .before .before .before .run-lines in fed-by _ (c .before .before .before .before .before .before .before .before .before .before .before .before .before .before .before .before .rest-of .ensures) (c .gathered .ensures) refl refl refl refl (u .ensures .0) (u .ensures .1)
 

@@ -15,39 +15,30 @@ use Rattle.log_lines.proofs.line_end.Reads as line-end-reads
 use Rattle.log_ring.proofs.formless_line.Reads as formless-line-reads
 use Rattle.log_ring.proofs.step_line.Reads as step-line-reads
 
--- src/lib.rt:177:9
 ring-step-requires : tie.Need-ring-step-requires
 ring-step-requires c κs = search needs
 
--- src/lib.rt:179:24
 enum-known-said : tie.Need-enum-known-said
 enum-known-said c = search needs
 
--- src/lib.rt:180:13
 step-line-requires : tie.Need-step-line-requires
 step-line-requires c κs = let p = c .before .before .before .before .before .before .before .before .before .before .before .before .pre in record { sound = p .0 .sound; few = p .0 .few; under = p .2; room = omega (arith, p .0 .room, p .1) }
 
--- src/lib.rt:183:17
 enum-told : tie.Need-enum-told
 enum-told c = search needs
 
--- src/lib.rt:183:17
 line-end-requires : tie.Need-line-end-requires
 line-end-requires c κs = search needs
 
--- src/lib.rt:185:17
 returns : tie.Need-returns
 returns c = let p = c .before .before .before .before .before .before .before .pre in (run-none _ _ _ _ (p .0), λ same. found-none _ _ (sym (c .before .line-end .ensures) ∙ c .if1 .taken))
 
--- src/lib.rt:187:13
 formless-line-requires : tie.Need-formless-line-requires
 formless-line-requires c κs = let p = c .before .before .before .before .before .before .before .before .pre in (p .2, omega (arith, p .0 .room, p .1))
 
--- src/lib.rt:159:1
 same-length : tie.Need-same-length
 same-length c = search needs
 
--- src/lib.rt:159:1
 returns-2 : tie.Need-returns-2
 returns-2 c = let p = c .before .before .before .before .before .before .before .before .before .before .before .before .before .before .before .pre in
     let a = c .before .before .before .before .before .before .before .before .before .before .before .before .before .before .before .args in
@@ -56,11 +47,9 @@ returns-2 c = let p = c .before .before .before .before .before .before .before 
     let en = ring-ended (a .piece .now) (a .r .next) _ _ (sym is) in
     answered-went _ _ _ _ _ _ _ _ _ is (en .0) (en .1) (p .0 .inside) (p .2) (c .before .before .step-line .ensures)
 
--- src/lib.rt:159:1
 same-length-2 : tie.Need-same-length-2
 same-length-2 c = search needs
 
--- src/lib.rt:159:1
 returns-3 : tie.Need-returns-3
 returns-3 c = let p = c .before .before .before .before .before .before .before .before .before .before .before .pre in
     let a = c .before .before .before .before .before .before .before .before .before .before .before .args in

@@ -11,35 +11,27 @@ use Rattle.log_text.proofs.put_answer.Lts as lts
 use Rattle.log_text.proofs.put_no.Reads as put-no-reads
 use Rattle.log_text.proofs.put_ok.Reads as put-ok-reads
 
--- src/lib.rt:48:37
 enum-told : tie.Need-enum-told
 enum-told c = search needs
 
--- src/lib.rt:48:30
 put-ok-requires : tie.Need-put-ok-requires
 put-ok-requires c κs = let a = c .before .before .before .before .args in subst (λ (v : Verdict). a .at + length (answerText (a .k) v) ≤ length (a .out .now)) (c .before .enum-told .given .1) (c .before .before .before .before .pre)
 
--- src/lib.rt:49:26
 enum-known-v : tie.Need-enum-known-v
 enum-known-v c = search needs
 
--- src/lib.rt:49:32
 put-no-requires : tie.Need-put-no-requires
 put-no-requires c κs = let a = c .before .before .before .before .before .args in subst (λ (v : Verdict). a .at + length (answerText (a .k) v) ≤ length (a .out .now)) (c .before .before .v .given .1) (c .before .before .before .before .before .pre)
 
--- src/lib.rt:43:1
 same-length : tie.Need-same-length
 same-length c = search needs
 
--- src/lib.rt:43:1
 returns : tie.Need-returns
 returns c = rw (c .before .before .before .before .enum-told .given .1) (c .before .before .put-ok .ensures)
 
--- src/lib.rt:43:1
 same-length-2 : tie.Need-same-length-2
 same-length-2 c = search needs
 
--- src/lib.rt:43:1
 returns-2 : tie.Need-returns-2
 returns-2 c = rw (c .before .before .before .before .before .v .given .1) (c .before .before .put-no .ensures)
 

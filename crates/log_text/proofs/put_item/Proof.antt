@@ -11,19 +11,15 @@ use Rattle.log_text.proofs.put_item.Lts as lts
 use Rattle.decimal.proofs.put_decimal.Reads as put-decimal-reads
 use Rattle.decimal.proofs.put_word.Reads as put-word-reads
 
--- src/lib.rt:18:9
 put-word-requires : tie.Need-put-word-requires
 put-word-requires c κs = let a = c .before .before .before .args in omega (arith, length-append (a .word .now) (decimal (a .n)))
 
--- src/lib.rt:19:5
 put-decimal-requires : tie.Need-put-decimal-requires
 put-decimal-requires c κs = let a = c .before .before .before .before .before .before .before .args in omega (arith, c .before .before .before .put-word .kept .0, c .before .before .before .put-word .ensures .0, length-append (a .word .now) (decimal (a .n)))
 
--- src/lib.rt:14:1
 same-length : tie.Need-same-length
 same-length c = search needs
 
--- src/lib.rt:14:1
 returns : tie.Need-returns
 returns c = let a = c .before .before .before .before .before .before .before .before .before .before .args in
     let u = c .before .before .before .before .before .before .put-word in

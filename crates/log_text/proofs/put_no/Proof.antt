@@ -17,47 +17,37 @@ use Rattle.decimal.proofs.put_word.Reads as put-word-reads
 use Rattle.log_text.proofs.put_item.Reads as put-item-reads
 use Rattle.refusal.proofs.number.Reads as number-reads
 
--- src/lib.rt:36:9
 number-requires : tie.Need-number-requires
 number-requires c κs = search needs
 
--- src/lib.rt:37:31
 slice-aggregate-put-item : tie.Need-slice-aggregate-put-item
 slice-aggregate-put-item c = search needs
 
--- src/lib.rt:37:9
 put-item-requires : tie.Need-put-item-requires
 put-item-requires c κs = let a = c .before .before .before .before .args in omega (arith, item-length (bytes "(no ") (a .k) (bytes " " ++ (decimal (numberOf (a .e)) ++ bytes ")\n")))
 
--- src/lib.rt:38:30
 slice-aggregate-put-item-2 : tie.Need-slice-aggregate-put-item-2
 slice-aggregate-put-item-2 c = search needs
 
--- src/lib.rt:38:36
 cast-put-item : tie.Need-cast-put-item
 cast-put-item c = search needs
 
--- src/lib.rt:38:9
 put-item-requires-2 : tie.Need-put-item-requires-2
 put-item-requires-2 c κs = let a = c .before .before .before .before .before .before .before .before .before .args in
     let e : length (item (bytes " ") (c .before .before .before .before .before .before .before .number .result)) ≡ length (item (bytes " ") (numberOf (a .e))) = ap (λ (n : ℕ). length (item (bytes " ") n)) (c .before .before .before .before .before .before .before .number .ensures) in
     omega (arith, c .before .before .before .before .put-item .kept .0, c .before .before .before .before .put-item .ensures .0, item-length (bytes "(no ") (a .k) (bytes " " ++ (decimal (numberOf (a .e)) ++ bytes ")\n")), item-length (bytes " ") (numberOf (a .e)) (bytes ")\n"))
 
--- src/lib.rt:39:22
 slice-aggregate-put-word : tie.Need-slice-aggregate-put-word
 slice-aggregate-put-word c = search needs
 
--- src/lib.rt:39:5
 put-word-requires : tie.Need-put-word-requires
 put-word-requires c κs = let a = c .before .before .before .before .before .before .before .before .before .before .before .before .before .before .args in
     let e : length (item (bytes " ") (c .before .before .before .before .before .before .before .before .before .before .before .before .number .result)) ≡ length (item (bytes " ") (numberOf (a .e))) = ap (λ (n : ℕ). length (item (bytes " ") n)) (c .before .before .before .before .before .before .before .before .before .before .before .before .number .ensures) in
     omega (arith, c .before .before .before .before .put-item2 .kept .0, c .before .before .before .before .put-item2 .ensures .0, c .before .before .before .before .before .before .before .before .before .put-item .kept .0, c .before .before .before .before .before .before .before .before .before .put-item .ensures .0, item-length (bytes "(no ") (a .k) (bytes " " ++ (decimal (numberOf (a .e)) ++ bytes ")\n")), item-length (bytes " ") (numberOf (a .e)) (bytes ")\n"))
 
--- src/lib.rt:32:1
 same-length : tie.Need-same-length
 same-length c = search needs
 
--- src/lib.rt:32:1
 returns : tie.Need-returns
 returns c = let a = c .before .before .before .before .before .before .before .before .before .before .before .before .before .before .before .before .before .args in
     let w = item-wrote (bytes "(no ") (a .k) (bytes " " ++ (decimal (c .before .before .before .before .before .before .before .before .before .before .before .before .before .before .before .number .result) ++ bytes ")\n")) (a .out .now) (a .at) (c .before .before .before .before .before .before .before .before .before .before .before .before .put-item .ensures)

@@ -9,27 +9,21 @@ use Rattle.log_text.proofs.put_ok.Lts as lts
 use Rattle.decimal.proofs.put_word.Reads as put-word-reads
 use Rattle.log_text.proofs.put_item.Reads as put-item-reads
 
--- src/lib.rt:27:31
 slice-aggregate-put-item : tie.Need-slice-aggregate-put-item
 slice-aggregate-put-item c = search needs
 
--- src/lib.rt:27:9
 put-item-requires : tie.Need-put-item-requires
 put-item-requires c κs = let a = c .before .before .before .args in omega (arith, item-length (bytes "(ok ") (a .k) (bytes ")\n"))
 
--- src/lib.rt:28:22
 slice-aggregate-put-word : tie.Need-slice-aggregate-put-word
 slice-aggregate-put-word c = search needs
 
--- src/lib.rt:28:5
 put-word-requires : tie.Need-put-word-requires
 put-word-requires c κs = let a = c .before .before .before .before .before .before .before .before .args in omega (arith, c .before .before .before .before .put-item .kept .0, c .before .before .before .before .put-item .ensures .0, item-length (bytes "(ok ") (a .k) (bytes ")\n"))
 
--- src/lib.rt:23:1
 same-length : tie.Need-same-length
 same-length c = search needs
 
--- src/lib.rt:23:1
 returns : tie.Need-returns
 returns c = let a = c .before .before .before .before .before .before .before .before .before .before .before .args in item-wrote (bytes "(ok ") (a .k) (bytes ")\n") (a .out .now) (a .at) (c .before .before .before .before .before .before .before .put-item .ensures) (c .before .before .put-word .ensures)
 

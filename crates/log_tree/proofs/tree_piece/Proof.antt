@@ -10,23 +10,18 @@ use Rattle.log_tree.proofs.run_lines.Reads as run-lines-reads
 use Rattle.tree.proofs.gathered.Reads as gathered-reads
 use Rattle.tree.proofs.rest_of.Reads as rest-of-reads
 
--- src/lib.rt:197:9
 rest-of-requires : tie.Need-rest-of-requires
 rest-of-requires c κs = search needs
 
--- src/lib.rt:209:9
 run-lines-requires : tie.Need-run-lines-requires
 run-lines-requires c κs = let p = c .before .before .before .before .before .before .before .before .before .before .before .before .before .before .pre in record { sound = subst⁻¹ Sound (c .before .before .before .before .before .before .before .before .before .before .before .rest-of .ensures) (p .sound); most = p .most; inside = p .inside; room = p .room }
 
--- src/lib.rt:220:9
 gathered-requires : tie.Need-gathered-requires
 gathered-requires c κs = search needs
 
--- src/lib.rt:186:1
 same-length : tie.Need-same-length
 same-length c = search needs
 
--- src/lib.rt:186:1
 returns : tie.Need-returns
 returns c = let u = c .before .before .before .before .run-lines in fed-by _ (c .before .before .before .before .before .before .before .before .before .before .before .before .before .before .before .before .rest-of .ensures) (c .gathered .ensures) refl refl refl (u .ensures .0) (u .ensures .1)
 

@@ -16,59 +16,45 @@ use Rattle.log_finish.proofs.finish.Reads as finish-reads
 use Rattle.watch.proofs.answers.Reads as answers-reads
 use Rattle.watch.proofs.pump.Reads as pump-reads
 
--- src/main.rt:62:21
 large-buffer-requires : tie.Need-large-buffer-requires
 large-buffer-requires c κs = search needs
 
--- src/main.rt:64:19
 answers-requires : tie.Need-answers-requires
 answers-requires c κs = search needs
 
--- src/main.rt:65:20
 start-requires : tie.Need-start-requires
 start-requires c κs = search needs
 
--- src/main.rt:65:34
 slice-aggregate-pump : tie.Need-slice-aggregate-pump
 slice-aggregate-pump c = search needs
 
--- src/main.rt:65:46
 slice-aggregate-pump-2 : tie.Need-slice-aggregate-pump-2
 slice-aggregate-pump-2 c = search needs
 
--- src/main.rt:65:57
 slice-aggregate-pump-3 : tie.Need-slice-aggregate-pump-3
 slice-aggregate-pump-3 c = search needs
 
--- src/main.rt:65:9
 pump-requires : tie.Need-pump-requires
 pump-requires c κs = (start-good _ _ (c .before .before .before .start .ensures) (length-replicate {0} {A = ℕ} 700 0), search needs)
 
--- src/main.rt:66:41
 slice-aggregate-finish : tie.Need-slice-aggregate-finish
 slice-aggregate-finish c = search needs
 
--- src/main.rt:66:48
 slice-aggregate-finish-2 : tie.Need-slice-aggregate-finish-2
 slice-aggregate-finish-2 c = search needs
 
--- src/main.rt:66:9
 finish-requires : tie.Need-finish-requires
 finish-requires c κs = (c .before .before .before .before .before .pump .ensures, search needs)
 
--- src/main.rt:67:40
 array-share-prefix-out : tie.Need-array-share-prefix-out
 array-share-prefix-out c = omega (arith, c .before .finish .ensures .room, c .before .finish .kept)
 
--- src/main.rt:67:40
 slice-aggregate-write-all : tie.Need-slice-aggregate-write-all
 slice-aggregate-write-all c = sym (length-take-le _ _ (omega (arith, c .before .before .finish .ensures .room, c .before .before .finish .kept)))
 
--- src/main.rt:67:5
 write-all-requires : tie.Need-write-all-requires
 write-all-requires c κs = search needs
 
--- src/main.rt:61:1
 returns : tie.Need-returns
 returns c = search needs
 

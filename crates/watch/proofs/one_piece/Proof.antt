@@ -11,75 +11,57 @@ use Rattle.io.proofs.write_all.Reads as write-all-reads
 use Rattle.libc.proofs.read.Reads as read-reads
 use Rattle.log.proofs.feed.Reads as feed-reads
 
--- src/main.rt:18:9
 read-requires : tie.Need-read-requires
 read-requires c κs = search needs
 
--- src/main.rt:20:9
 same-length : tie.Need-same-length
 same-length c = search needs
 
--- src/main.rt:20:9
 returns : tie.Need-returns
 returns c = search needs
 
--- src/main.rt:22:9
 count-requires : tie.Need-count-requires
 count-requires c κs = search needs
 
--- src/main.rt:23:28
 slice-reshare-prefix-feed : tie.Need-slice-reshare-prefix-feed
 slice-reshare-prefix-feed c = search needs
 
--- src/main.rt:23:28
 slice-aggregate-feed : tie.Need-slice-aggregate-feed
 slice-aggregate-feed c = search needs
 
--- src/main.rt:23:9
 feed-requires : tie.Need-feed-requires
 feed-requires c κs = search needs
 
--- src/main.rt:26:44
 slice-reshare-prefix-write-all : tie.Need-slice-reshare-prefix-write-all
 slice-reshare-prefix-write-all c = search needs
 
--- src/main.rt:26:44
 slice-aggregate-write-all : tie.Need-slice-aggregate-write-all
 slice-aggregate-write-all c = sym (length-take-le _ _ (omega (arith, c .before .before .before .before .before .before .feed .ensures .room, c .before .before .before .before .before .before .feed .kept)))
 
--- src/main.rt:26:9
 write-all-requires : tie.Need-write-all-requires
 write-all-requires c κs = search needs
 
--- src/main.rt:27:9
 same-length-2 : tie.Need-same-length-2
 same-length-2 c = search needs
 
--- src/main.rt:27:9
 same-length-3 : tie.Need-same-length-3
 same-length-3 c = search needs
 
--- src/main.rt:27:9
 same-length-4 : tie.Need-same-length-4
 same-length-4 c = search needs
 
--- src/main.rt:27:9
 returns-2 : tie.Need-returns-2
 returns-2 c = search needs
 
--- src/main.rt:14:1
 same-length-5 : tie.Need-same-length-5
 same-length-5 c = search needs
 
--- src/main.rt:14:1
 same-length-6 : tie.Need-same-length-6
 same-length-6 c = search needs
 
--- src/main.rt:14:1
 same-length-7 : tie.Need-same-length-7
 same-length-7 c = search needs
 
--- src/main.rt:14:1
 returns-3 : tie.Need-returns-3
 returns-3 c = search needs
 

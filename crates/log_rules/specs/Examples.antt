@@ -1,0 +1,49 @@
+-- Logs and their outputs, worked by hand from document 01. proofs/Examples.antt computes them over the definitions.
+use Prim.Native.Nat.{ℕ}
+use mathlib.Core.List.{List, [], _∷_}
+use mathlib.Core.Path.{_≡_}
+use Rattle.decimal.specs.Bytes.{bytes}
+use Rattle.log_rules.specs.Output.{outputOf}
+
+pub record Example : Type 0 where
+  pub log : List ℕ
+  pub output : List ℕ
+
+abbrev pub examples : List Example
+examples =
+    -- document 01's listing
+    record {
+      log = bytes "(ring 2 (active) (black 1))\n(announce)\n(probe)\n(pass 1)\n(announce)\n(probe)\n(pass 1)\n(announce)\n(pass 1)\n";
+      output =
+          bytes "(ok 1)\n(no 2 8)\n(ok 3)\n(ok 4)\n(no 5 8)\n(ok 6)\n(ok 7)\n(ok 8)\n(no 9 4)\n(end (boards 2) (holder 0) (moves 4) (flight 0) (black 0))\n";
+    }
+    -- a ring that is not quiet: node 3 is none, ack is a word of the tree, a second start is no step, the last line lacks its byte 10
+    ∷ record {
+      log = bytes "(ring 3 (active 0) (black 1 2))\n(send 0 1)\n(probe)\n(idle 3)\n(ack 0)\n(ring 3)\n(send 0 0)\n(pass 1)\n(idle 0)";
+      output =
+          bytes "(ok 1)\n(ok 2)\n(ok 3)\n(no 4 6)\n(no 5 10)\n(no 6 10)\n(no 7 7)\n(no 8 8)\n(no 9 10)\n(end (boards 3) (holder 2) (moves 1) (flight 1) (black 2))\n";
+    }
+    -- a tree with an acknowledgement in transit: node 0 is engaged already when it takes the message from 1
+    ∷ record {
+      log = bytes "(tree 3 (root 0))\n(send 0 1)\n(take 1 0)\n(send 1 0)\n(take 0 1)\n(probe)\n(announce)\n(leave 1)\n";
+      output =
+          bytes "(ok 1)\n(ok 2)\n(ok 3)\n(ok 4)\n(ok 5)\n(no 6 10)\n(no 7 8)\n(no 8 8)\n(end (boards 3) (engaged (0 (1))) (acks 1))\n";
+    }
+    -- after a bad or missing first line its refusal is all
+    ∷ record { log = bytes "(ring 97)\n(probe)\n"; output = bytes "(no 1 1)\n" }
+    ∷ record { log = bytes "(ring 2 (active 2) (black))\n(probe)\n"; output = bytes "(no 1 6)\n" }
+    ∷ record { log = bytes "(ring 2)\r\n(probe)\r\n"; output = bytes "(no 1 10)\n" }
+    ∷ record { log = bytes "(ring 2)"; output = bytes "(no 1 10)\n" }
+    ∷ record { log = []; output = bytes "(no 1 10)\n" }
+    ∷ []
+
+unfoldable pub outputs : List Example → List (List ℕ)
+outputs [] = []
+outputs (e ∷ es) = outputOf (e .log) ∷ outputs es
+
+unfoldable pub expected : List Example → List (List ℕ)
+expected [] = []
+expected (e ∷ es) = e .output ∷ expected es
+
+abbrev pub ExamplesHold : Type 0
+ExamplesHold = outputs examples ≡ expected examples
