@@ -24,7 +24,7 @@ use Rattle.ring_rules.proofs.Theorems.{sound-kept}
 use Rattle.ring_rules.specs.Answers.{Answer, answerOf, stepOf}
 use Rattle.ring_rules.specs.Rules.{kindOf}
 use Rattle.ring_rules.specs.Soundness.{Sound}
-use Rattle.ring_steps.specs.Told.{answer}
+use Rattle.ring_check.specs.Told.{answer}
 use Rattle.log_ring.specs.Run.{Answered, Fed, Inside, RingWent}
 use Rattle.log_ring.specs.declared.RingFed.{RingFed}
 use Rattle.log_ring.specs.declared.RingRun.{RingRun}

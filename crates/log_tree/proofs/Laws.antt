@@ -22,7 +22,7 @@ use Rattle.tree_rules.proofs.Theorems.{sound-kept}
 use Rattle.tree_rules.specs.Answers.{Answer, answerOf, stepOf}
 use Rattle.tree_rules.specs.Rules.{kindOf}
 use Rattle.tree_rules.specs.Soundness.{Sound}
-use Rattle.tree_steps.specs.Told.{answer}
+use Rattle.tree_check.specs.Told.{answer}
 use Rattle.log_tree.specs.Run.{Answered, Fed, Inside, TreeWent}
 use Rattle.log_tree.specs.declared.TreeFed.{TreeFed}
 use Rattle.log_tree.specs.declared.TreeRun.{TreeRun}

@@ -1,4 +1,5 @@
 // The soundness check of a ring state over lent columns: what is large is lent, the rest goes by value.
+use refusal::Verdict;
 ghost use mathlib.Core.Path.{_≡_};
 ghost use mathlib.Core.Bool.{_&&_};
 ghost use Prim.Native.Nat.{suc, _+_, _-_, _*_, _≤_, _<_, _^_};
@@ -17,6 +18,12 @@ pub struct Rest {
     pub q: i64,
     pub black: bool,
     pub closed: bool,
+}
+
+// A verdict, and the rest of the state beside the columns.
+pub struct Told {
+    pub verdict: Verdict,
+    pub rest: Rest,
 }
 
 // A place of a column, as a wider number.

@@ -1,4 +1,5 @@
 // The soundness check of a tree state over lent columns: what is large is lent, the rest goes by value.
+use refusal::Verdict;
 ghost use mathlib.Core.Path.{_≡_};
 ghost use mathlib.Core.Bool.{cond};
 ghost use Prim.Native.Nat.{_+_, _*_, _≤_, _<_, _^_};
@@ -16,6 +17,12 @@ pub struct Rest {
     pub root: usize,
     pub sends: u32,
     pub closed: bool,
+}
+
+// A verdict, and the rest of the state beside the columns.
+pub struct Told {
+    pub verdict: Verdict,
+    pub rest: Rest,
 }
 
 // A place of a column, as a wider number.

@@ -4,10 +4,12 @@ ghost use mathlib.Core.Path.{_≡_};
 ghost use Prim.Native.Nat.{_+_, _*_, _≤_};
 ghost use lib.ListN.{length};
 ghost use Rattle.log.specs.Feed.{Good};
+ghost use Rattle.watch.specs.Turn.{Turned};
 
-// The log after a piece: whether to go on, and whether a read or a write failed.
+// The log after a piece, how many bytes of answers were handed to write, whether to go on, and whether a read or a write failed.
 pub struct Step {
     pub log: Log,
+    pub count: usize,
     pub more: bool,
     pub failed: bool,
 }
@@ -15,12 +17,13 @@ pub struct Step {
 // One read, its lines, and one write.
 fn one_piece(log: Log, piece: &mut [u8], line: &mut [u8], out: &mut [u8]) -> Step
     requires { ⌜ Good log (now line) × ((length (now piece) + 700) * 16 ≤ length (now out)) ⌝ }
-    ensures { λ s. ⌜ Good (s .log) (now (line .exit)) ⌝ }
+    ensures { λ s. ⌜ Good (s .log) (now (line .exit)) × Turned log s (now (line .entry)) (now (line .exit)) (now (piece .exit)) (now (out .entry)) (now (out .exit)) ⌝ }
 {
     let got = libc::read(libc::STDIN_FILENO, piece);
     if got <= 0 {
         return Step {
             log,
+            count: 0,
             more: false,
             failed: got < 0,
         };
@@ -33,6 +36,7 @@ fn one_piece(log: Log, piece: &mut [u8], line: &mut [u8], out: &mut [u8]) -> Ste
     let more = written & (next.lines < 1000000);
     Step {
         log: next,
+        count,
         more,
         failed: !written,
     }
@@ -55,6 +59,7 @@ fn pump(first: Log, piece: &mut [u8], line: &mut [u8], out: &mut [u8]) -> Step
     }
     Step {
         log,
+        count: 0,
         more: false,
         failed: false,
     }

@@ -1,15 +1,10 @@
-use borrow.Author.Needs.{needs}
 use lib.Seq.{length-take-le}
-use mathlib.Core.Path.{sym}
+use mathlib.Core.Path.{refl, sym}
 use native.Mathlib.Omega.{arith}
+use Rattle.watch.specs.Turn.{fed, stopped}
+use borrow.Author.Needs.{needs}
 use Rattle.watch.proofs.one_piece.Statement.{statement}
 use Rattle.watch.proofs.one_piece.Tie as tie
-use Rattle.watch.proofs.one_piece.Reads as reads
-use Rattle.watch.proofs.one_piece.Lts as lts
-use Rattle.io.proofs.count.Reads as count-reads
-use Rattle.io.proofs.write_all.Reads as write-all-reads
-use Rattle.libc.proofs.read.Reads as read-reads
-use Rattle.log.proofs.feed.Reads as feed-reads
 
 read-requires : tie.Need-read-requires
 read-requires c κs = search needs
@@ -18,7 +13,7 @@ same-length : tie.Need-same-length
 same-length c = search needs
 
 returns : tie.Need-returns
-returns c = search needs
+returns c = (c .before .before .before .before .before .before .before .before .pre .0, stopped refl refl refl refl)
 
 count-requires : tie.Need-count-requires
 count-requires c κs = search needs
@@ -51,19 +46,7 @@ same-length-4 : tie.Need-same-length-4
 same-length-4 c = search needs
 
 returns-2 : tie.Need-returns-2
-returns-2 c = search needs
-
-same-length-5 : tie.Need-same-length-5
-same-length-5 c = search needs
-
-same-length-6 : tie.Need-same-length-6
-same-length-6 c = search needs
-
-same-length-7 : tie.Need-same-length-7
-same-length-7 c = search needs
-
-returns-3 : tie.Need-returns-3
-returns-3 c = search needs
+returns-2 c = (c .before .before .before .before .before .before .before .before .feed .ensures .good, fed _ (c .before .before .before .before .before .before .before .before .before .before .before .before .count .ensures .0 .0) (c .before .before .before .before .before .before .before .before .feed .ensures))
 
 pub one-piece-spec : {M : Type 1} → statement M
 one-piece-spec =
@@ -82,8 +65,4 @@ one-piece-spec =
     same-length-2
     same-length-3
     same-length-4
-    returns-2
-    same-length-5
-    same-length-6
-    same-length-7
-    returns-3)
+    returns-2)

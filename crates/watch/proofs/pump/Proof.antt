@@ -4,9 +4,6 @@ use native.Mathlib.Omega.{arith}
 use Rattle.log.specs.Feed.{Good}
 use Rattle.watch.proofs.pump.Statement.{statement}
 use Rattle.watch.proofs.pump.Tie as tie
-use Rattle.watch.proofs.pump.Reads as reads
-use Rattle.watch.proofs.pump.Lts as lts
-use Rattle.watch.proofs.one_piece.Reads as one-piece-reads
 
 abbrev Inv-loop : tie.InvT-loop
 Inv-loop piece₀ line₀ out₀ log₀ turns₀ piece line out log turns = (length piece ≡ length piece₀) × (length out ≡ length out₀) × (length line ≡ length line₀) × Good log line
@@ -21,16 +18,16 @@ one-piece-requires : tie.Need-one-piece-requires Inv-loop μ-loop
 one-piece-requires c κs = (c .before .before .before .before .loop .inv .3, omega (arith, c .before .before .before .before .loop .inv .0, c .before .before .before .before .loop .inv .1, c .before .before .before .before .before .before .before .before .pre .1))
 
 same-length : tie.Need-same-length Inv-loop μ-loop
-same-length c = omega (arith, c .before .before .before .before .before .before .before .before .before .before .before .before .before .before .loop .inv .0, c .before .before .before .before .before .before .before .before .before .one-piece .kept)
+same-length c = omega (arith, c .before .before .before .before .before .before .before .before .before .before .before .before .before .loop .inv .0, c .before .before .before .before .before .before .before .before .one-piece .kept)
 
 same-length-2 : tie.Need-same-length-2 Inv-loop μ-loop
-same-length-2 c = omega (arith, c .before .before .before .before .before .before .before .before .before .before .before .before .before .before .loop .inv .2, c .before .before .before .before .before .before .before .before .before .one-piece .kept)
+same-length-2 c = omega (arith, c .before .before .before .before .before .before .before .before .before .before .before .before .before .loop .inv .2, c .before .before .before .before .before .before .before .before .one-piece .kept)
 
 same-length-3 : tie.Need-same-length-3 Inv-loop μ-loop
-same-length-3 c = omega (arith, c .before .before .before .before .before .before .before .before .before .before .before .before .before .before .loop .inv .1, c .before .before .before .before .before .before .before .before .before .one-piece .kept)
+same-length-3 c = omega (arith, c .before .before .before .before .before .before .before .before .before .before .before .before .before .loop .inv .1, c .before .before .before .before .before .before .before .before .one-piece .kept)
 
 returns : tie.Need-returns Inv-loop μ-loop
-returns c = c .before .before .before .before .before .before .before .before .before .one-piece .ensures
+returns c = c .before .before .before .before .before .before .before .before .one-piece .ensures .0
 
 sub-turns : tie.Need-sub-turns Inv-loop μ-loop
 sub-turns c = omega arith
@@ -39,7 +36,7 @@ loop-less : tie.Need-loop-less Inv-loop μ-loop
 loop-less c = omega arith
 
 loop-again : tie.Need-loop-again Inv-loop μ-loop
-loop-again c = (omega (arith, c .before .before .before .before .before .before .before .before .before .before .before .before .before .before .loop .inv .0, c .before .before .before .before .before .before .before .before .before .one-piece .kept), omega (arith, c .before .before .before .before .before .before .before .before .before .before .before .before .before .before .loop .inv .1, c .before .before .before .before .before .before .before .before .before .one-piece .kept), omega (arith, c .before .before .before .before .before .before .before .before .before .before .before .before .before .before .loop .inv .2, c .before .before .before .before .before .before .before .before .before .one-piece .kept), c .before .before .before .before .before .before .before .before .before .one-piece .ensures)
+loop-again c = (omega (arith, c .before .before .before .before .before .before .before .before .before .before .before .before .before .before .loop .inv .0, c .before .before .before .before .before .before .before .before .before .one-piece .kept), omega (arith, c .before .before .before .before .before .before .before .before .before .before .before .before .before .before .loop .inv .1, c .before .before .before .before .before .before .before .before .before .one-piece .kept), omega (arith, c .before .before .before .before .before .before .before .before .before .before .before .before .before .before .loop .inv .2, c .before .before .before .before .before .before .before .before .before .one-piece .kept), c .before .before .before .before .before .before .before .before .before .one-piece .ensures .0)
 
 same-length-4 : tie.Need-same-length-4 Inv-loop μ-loop
 same-length-4 c = c .before .loop .inv .0

@@ -1,0 +1,80 @@
+use borrow.Author.Needs.{needs}
+use borrow.Author.Tests.{le-leb, lt-leb, ltb-true, not-false, not-true}
+use lib.Dec.{ltb}
+use mathlib.Core.Path.{refl}
+use mir.Facts.{toZ-ofZ}
+use mir.Syntax.{w64}
+use mir.Val.{SFits}
+use native.Mathlib.Omega.{arith}
+use Rattle.laws.proofs.Tests.{both}
+use Rattle.ring_check.proofs.Laws.{small-sum}
+use Rattle.ring_rules.proofs.Answers.{accepted-answer, node-answer, rule-answer}
+use Rattle.ring_rules.specs.Rules.{Pass, mayPass}
+use Rattle.ring_token.proofs.pass.Statement.{statement}
+use Rattle.ring_token.proofs.pass.Tie as tie
+
+returns : tie.Need-returns
+returns c = node-answer _ Pass _ _ (c .before .before .pre) refl (le-leb _ _ (c .if1 .taken))
+
+element-copy-out-if2 : tie.Need-element-copy-out-if2
+element-copy-out-if2 c = search needs
+
+returns-2 : tie.Need-returns-2
+unfolding mayPass
+returns-2 c = rule-answer _ Pass _ _ (c .before .before .before .before .before .pre) refl (lt-leb _ _ (c .before .before .before .if1 .left)) refl (not-true _ (c .if2 .taken))
+
+is-black-requires : tie.Need-is-black-requires
+is-black-requires c κs = search needs
+
+mul-wide : tie.Need-mul-wide
+mul-wide c = search needs
+
+element-copy-out-wide : tie.Need-element-copy-out-wide
+element-copy-out-wide c = search needs
+
+wide-requires : tie.Need-wide-requires
+wide-requires c κs = search needs
+
+mul-wide-2 : tie.Need-mul-wide-2
+mul-wide-2 c = search needs
+
+element-copy-out-wide-2 : tie.Need-element-copy-out-wide-2
+element-copy-out-wide-2 c = search needs
+
+wide-requires-2 : tie.Need-wide-requires-2
+wide-requires-2 c κs = search needs
+
+plus-counter-requires : tie.Need-plus-counter-requires
+plus-counter-requires c κs = let f : SFits w64 (c .before .before .before .before .before .before .before .before .before .before .before .before .args .r .q) = search needs in
+    rw (toZ-ofZ f) (small-sum (c .before .before .before .before .before .before .before .before .before .before .before .before .args .r .q) (c .before .before .before .before .before .before .before .before .before .before .before .before .args .r .n) (c .before .before .before .before .before .before .before .before .before .before .before .before .args .r .pos) (c .before .before .before .before .before .before .before .before .before .before .before .before .pre .sound .nodes) (c .before .before .before .before .before .before .before .before .before .before .before .before .pre .sound .range), omega arith, omega arith)
+
+whiten-requires : tie.Need-whiten-requires
+whiten-requires c κs = search needs
+
+sub-t26 : tie.Need-sub-t26
+sub-t26 c = ltb-true 0 (c .before .before .before .before .before .before .before .before .before .before .before .before .before .before .before .args .i) (both (ltb 0 (c .before .before .before .before .before .before .before .before .before .before .before .before .before .before .before .args .i)) _ (not-false _ (c .before .before .before .before .before .before .before .before .before .before .if2 .left)) .0)
+
+returns-3 : tie.Need-returns-3
+unfolding mayPass
+returns-3 c = let f : SFits w64 (c .before .before .before .before .before .before .before .before .before .before .before .before .before .before .before .before .args .r .q) = search needs in
+    let g : SFits w64 (c .before .before .before .plus-counter .result) = search needs in
+    rw (toZ-ofZ g, c .before .whiten .ensures, c .before .before .before .plus-counter .ensures, c .before .before .before .before .before .before .before .wide .ensures .0, c .before .before .before .before .before .wide2 .ensures .0, c .before .before .before .before .before .before .before .before .before .is-black .ensures, toZ-ofZ f) (accepted-answer _ Pass _ _ (c .before .before .before .before .before .before .before .before .before .before .before .before .before .before .before .before .pre) refl (lt-leb _ _ (c .before .before .before .before .before .before .before .before .before .before .before .before .before .before .if1 .left)) refl (not-false _ (c .before .before .before .before .before .before .before .before .before .before .before .if2 .left)) refl)
+
+pub pass-spec : {M : Type 1} → statement M
+pass-spec =
+    tie.close
+    (tie.spec
+    returns
+    element-copy-out-if2
+    returns-2
+    is-black-requires
+    mul-wide
+    element-copy-out-wide
+    wide-requires
+    mul-wide-2
+    element-copy-out-wide-2
+    wide-requires-2
+    plus-counter-requires
+    whiten-requires
+    sub-t26
+    returns-3)

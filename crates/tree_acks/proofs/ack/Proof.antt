@@ -1,0 +1,67 @@
+use borrow.Author.Needs.{needs}
+use borrow.Author.Tests.{le-leb, le-ltb, lt-leb, lt-ltb}
+use lib.ListN.{getD}
+use mathlib.Core.Path.{refl}
+use native.Mathlib.Omega.{arith}
+use Rattle.tree_rules.proofs.Answers.{accepted-answer, node-answer, rule-answer}
+use Rattle.tree_rules.proofs.Bounds.{ack-awaited}
+use Rattle.tree_rules.specs.Rules.{Ack}
+use Rattle.tree_acks.proofs.ack.Statement.{statement}
+use Rattle.tree_acks.proofs.ack.Tie as tie
+
+returns : tie.Need-returns
+returns c = node-answer _ Ack _ _ (c .before .before .pre) refl (le-leb _ _ (c .if1 .taken))
+
+mul-if2 : tie.Need-mul-if2
+mul-if2 c = search needs
+
+element-copy-out-if2 : tie.Need-element-copy-out-if2
+element-copy-out-if2 c = search needs
+
+returns-2 : tie.Need-returns-2
+returns-2 c = rule-answer _ Ack _ _ (c .before .before .before .before .pre) refl (lt-leb _ _ (c .before .before .if1 .left)) refl (le-ltb 0 (getD (c .before .before .before .before .args .acks .now) (c .before .before .before .before .args .i) 0) (omega arith))
+
+mul-acks : tie.Need-mul-acks
+mul-acks c = search needs
+
+element-copy-out-acks : tie.Need-element-copy-out-acks
+element-copy-out-acks c = search needs
+
+sub-acks : tie.Need-sub-acks
+sub-acks c = search needs
+
+element-write-acks : tie.Need-element-write-acks
+element-write-acks c = search needs
+
+mul-unacked : tie.Need-mul-unacked
+mul-unacked c = search needs
+
+element-copy-out-unacked : tie.Need-element-copy-out-unacked
+element-copy-out-unacked c = search needs
+
+sub-unacked : tie.Need-sub-unacked
+sub-unacked c = omega (arith, ack-awaited _ (c .before .before .before .before .before .before .pre .sound) (c .before .before .before .before .before .before .args .i) (omega (arith, c .before .before .before .before .before .before .pre .sound .nodes)) (omega arith))
+
+element-write-unacked : tie.Need-element-write-unacked
+element-write-unacked c = search needs
+
+returns-3 : tie.Need-returns-3
+returns-3 c = accepted-answer _ Ack _ _ (c .before .before .before .before .before .before .pre) refl (lt-leb _ _ (c .before .before .before .before .if1 .left)) refl (lt-ltb 0 (getD (c .before .before .before .before .before .before .args .acks .now) (c .before .before .before .before .before .before .args .i) 0) (omega arith)) refl
+
+pub ack-spec : {M : Type 1} → statement M
+ack-spec =
+    tie.close
+    (tie.spec
+    returns
+    mul-if2
+    element-copy-out-if2
+    returns-2
+    mul-acks
+    element-copy-out-acks
+    sub-acks
+    element-write-acks
+    mul-unacked
+    element-copy-out-unacked
+    sub-unacked
+    element-write-unacked
+    returns-3)

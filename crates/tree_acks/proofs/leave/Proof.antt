@@ -1,0 +1,67 @@
+use borrow.Author.Needs.{needs}
+use borrow.Author.Tests.{le-leb, lt-leb, not-false, not-true}
+use mathlib.Core.Path.{refl}
+use native.Mathlib.Omega.{arith}
+use Rattle.tree_rules.proofs.Answers.{accepted-answer, node-answer, rule-answer}
+use Rattle.tree_rules.proofs.Bounds.{acks-small, leaver-engager}
+use Rattle.tree_rules.specs.Rules.{Leave, mayLeave}
+use Rattle.tree_acks.proofs.leave.Statement.{statement}
+use Rattle.tree_acks.proofs.leave.Tie as tie
+
+returns : tie.Need-returns
+returns c = node-answer _ Leave _ _ (c .before .before .pre) refl (le-leb _ _ (c .if1 .taken))
+
+engager-of-requires : tie.Need-engager-of-requires
+engager-of-requires c κs = search needs
+
+element-copy-out-if2 : tie.Need-element-copy-out-if2
+element-copy-out-if2 c = search needs
+
+mul-if2 : tie.Need-mul-if2
+mul-if2 c = search needs
+
+element-copy-out-if2-2 : tie.Need-element-copy-out-if2-2
+element-copy-out-if2-2 c = search needs
+
+returns-2 : tie.Need-returns-2
+unfolding mayLeave
+returns-2 c = rule-answer _ Leave _ _ (c .before .before .before .before .before .before .before .before .pre) refl (lt-leb _ _ (c .before .before .before .before .before .before .if1 .left)) refl (rw (← c .before .before .before .before .engager-of .ensures .0) (not-true _ (c .if2 .taken)))
+
+element-write-engager : tie.Need-element-write-engager
+element-write-engager c = search needs
+
+mul-acks : tie.Need-mul-acks
+mul-acks c = search needs
+
+element-copy-out-acks : tie.Need-element-copy-out-acks
+unfolding mayLeave
+element-copy-out-acks c = omega (arith, c .before .before .before .before .engager-of .ensures .0, leaver-engager _ (c .before .before .before .before .before .before .before .before .pre .sound) (c .before .before .before .before .before .before .before .before .args .i) (omega (arith, c .before .before .before .before .before .before .before .before .pre .sound .nodes)) (rw (← c .before .before .before .before .engager-of .ensures .0) (not-false _ (c .if2 .left))))
+
+add-acks : tie.Need-add-acks
+unfolding mayLeave
+add-acks c = record { fits = omega (arith, acks-small _ (c .before .before .before .before .before .before .before .before .before .pre .sound) (c .before .before .before .before .before .engager-of .result) (omega (arith, c .before .before .before .before .before .engager-of .ensures .0, leaver-engager _ (c .before .before .before .before .before .before .before .before .before .pre .sound) (c .before .before .before .before .before .before .before .before .before .args .i) (omega (arith, c .before .before .before .before .before .before .before .before .before .pre .sound .nodes)) (rw (← c .before .before .before .before .before .engager-of .ensures .0) (not-false _ (c .before .if2 .left)))))) }
+
+element-write-acks : tie.Need-element-write-acks
+unfolding mayLeave
+element-write-acks c = omega (arith, c .before .before .before .before .before .engager-of .ensures .0, leaver-engager _ (c .before .before .before .before .before .before .before .before .before .pre .sound) (c .before .before .before .before .before .before .before .before .before .args .i) (omega (arith, c .before .before .before .before .before .before .before .before .before .pre .sound .nodes)) (rw (← c .before .before .before .before .before .engager-of .ensures .0) (not-false _ (c .before .if2 .left))))
+
+returns-3 : tie.Need-returns-3
+unfolding mayLeave
+returns-3 c = rw (c .before .before .before .before .before .engager-of .ensures .0) (accepted-answer _ Leave _ _ (c .before .before .before .before .before .before .before .before .before .pre) refl (lt-leb _ _ (c .before .before .before .before .before .before .before .if1 .left)) refl (rw (← c .before .before .before .before .before .engager-of .ensures .0) (not-false _ (c .before .if2 .left))) refl)
+
+pub leave-spec : {M : Type 1} → statement M
+leave-spec =
+    tie.close
+    (tie.spec
+    returns
+    engager-of-requires
+    element-copy-out-if2
+    mul-if2
+    element-copy-out-if2-2
+    returns-2
+    element-write-engager
+    mul-acks
+    element-copy-out-acks
+    add-acks
+    element-write-acks
+    returns-3)

@@ -1,0 +1,111 @@
+// The steps of acknowledgements over lent columns, of an open state: ack, leave and announce.
+use refusal::Refusal;
+use refusal::Verdict;
+use tree_check::Rest;
+use tree_check::Told;
+ghost use mathlib.Core.Path.{_≡_};
+ghost use Rattle.tree_rules.specs.Rules.{Ack, Leave, Announce};
+ghost use Rattle.tree_rules.specs.Soundness.{Open};
+ghost use Rattle.tree_rules.specs.Answers.{answerOf};
+ghost use Rattle.tree_check.specs.Whole.{whole};
+ghost use Rattle.tree_check.specs.Told.{answer};
+
+// Rule 4.
+pub fn ack<'a>(
+    r: Rest,
+    active: &'a [bool; 16],
+    engager: &'a [u8; 16],
+    unacked: &mut [u32; 16],
+    transit: &'a [u32; 256],
+    acks: &mut [u32; 16],
+    i: usize,
+) -> Told
+    requires { ⌜ Open (whole r (now active) (now engager) (now unacked) (now transit) (now acks)) ⌝ }
+    ensures { λ d. ⌜ answer (d .verdict) (whole (d .rest) (now (active .entry)) (now (engager .entry)) (now (unacked .exit)) (now (transit .entry)) (now (acks .exit)))
+        ≡ answerOf (whole r (now (active .entry)) (now (engager .entry)) (now (unacked .entry)) (now (transit .entry)) (now (acks .entry))) Ack i 0 ⌝ }
+{
+    if r.n <= i {
+        return Told {
+            verdict: Verdict::Refused(Refusal::UnknownNode),
+            rest: r,
+        };
+    }
+    if acks[i] == 0 {
+        return Told {
+            verdict: Verdict::Refused(Refusal::RuleFails),
+            rest: r,
+        };
+    }
+    acks[i] -= 1;
+    unacked[i] -= 1;
+    Told {
+        verdict: Verdict::Accepted,
+        rest: r,
+    }
+}
+
+// Rule 5.
+pub fn leave<'a>(
+    r: Rest,
+    active: &'a [bool; 16],
+    engager: &mut [u8; 16],
+    unacked: &'a [u32; 16],
+    transit: &'a [u32; 256],
+    acks: &mut [u32; 16],
+    i: usize,
+) -> Told
+    requires { ⌜ Open (whole r (now active) (now engager) (now unacked) (now transit) (now acks)) ⌝ }
+    ensures { λ d. ⌜ answer (d .verdict) (whole (d .rest) (now (active .entry)) (now (engager .exit)) (now (unacked .entry)) (now (transit .entry)) (now (acks .exit)))
+        ≡ answerOf (whole r (now (active .entry)) (now (engager .entry)) (now (unacked .entry)) (now (transit .entry)) (now (acks .entry))) Leave i 0 ⌝ }
+{
+    if r.n <= i {
+        return Told {
+            verdict: Verdict::Refused(Refusal::UnknownNode),
+            rest: r,
+        };
+    }
+    let e = tree_check::engager_of(engager, i);
+    if !((i != r.root) & ((e != 16) & (!active[i] & (unacked[i] == 0)))) {
+        return Told {
+            verdict: Verdict::Refused(Refusal::RuleFails),
+            rest: r,
+        };
+    }
+    engager[i] = 16;
+    acks[e] += 1;
+    Told {
+        verdict: Verdict::Accepted,
+        rest: r,
+    }
+}
+
+// Rule 6.
+pub fn announce<'a>(
+    r: Rest,
+    active: &'a [bool; 16],
+    engager: &'a [u8; 16],
+    unacked: &'a [u32; 16],
+    transit: &'a [u32; 256],
+    acks: &'a [u32; 16],
+) -> Told
+    requires { ⌜ Open (whole r (now active) (now engager) (now unacked) (now transit) (now acks)) ⌝ }
+    ensures { λ d. ⌜ answer (d .verdict) (whole (d .rest) (now (active .entry)) (now (engager .entry)) (now (unacked .entry)) (now (transit .entry)) (now (acks .entry)))
+        ≡ answerOf (whole r (now (active .entry)) (now (engager .entry)) (now (unacked .entry)) (now (transit .entry)) (now (acks .entry))) Announce 0 0 ⌝ }
+{
+    if !tree_check::is_conclusive(r, active, engager, unacked, transit, acks) {
+        return Told {
+            verdict: Verdict::Refused(Refusal::RuleFails),
+            rest: r,
+        };
+    }
+    let rest = Rest {
+        n: r.n,
+        root: r.root,
+        sends: r.sends,
+        closed: true,
+    };
+    Told {
+        verdict: Verdict::Accepted,
+        rest: rest,
+    }
+}

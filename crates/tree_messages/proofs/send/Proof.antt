@@ -1,0 +1,88 @@
+use borrow.Author.Needs.{needs}
+use borrow.Author.Tests.{eq-eqb, le-leb, lt-leb, ne-eqb, not-false, not-true}
+use lib.Dec.{leb}
+use mathlib.Core.Path.{refl}
+use native.Mathlib.Omega.{arith}
+use Rattle.laws.proofs.Tests.{left-true, right-true}
+use Rattle.tree_rules.proofs.Answers.{accepted-answer, limit-answer, node-answer, rule-answer, self-answer}
+use Rattle.tree_rules.proofs.Bounds.{transit-small, unacked-small}
+use Rattle.tree_rules.specs.Rules.{Send}
+use Rattle.tree_messages.proofs.send.Statement.{statement}
+use Rattle.tree_messages.proofs.send.Tie as tie
+
+returns : tie.Need-returns
+returns c = node-answer _ Send _ _ (c .before .before .pre) refl (left-true _ (le-leb _ _ (c .if1 .taken)))
+
+returns-2 : tie.Need-returns-2
+returns-2 c = node-answer _ Send _ _ (c .before .before .before .before .pre) refl (right-true (leb (c .before .before .before .before .args .r .n) (c .before .before .before .before .args .i)) (le-leb _ _ (c .if2 .taken)))
+
+returns-3 : tie.Need-returns-3
+returns-3 c = self-answer _ Send _ _ (c .before .before .before .before .before .pre) refl (rw (lt-leb _ _ (c .before .before .before .if1 .left), lt-leb _ _ (c .before .if2 .left))) (eq-eqb _ _ (c .if3 .taken))
+
+element-copy-out-if4 : tie.Need-element-copy-out-if4
+element-copy-out-if4 c = search needs
+
+returns-4 : tie.Need-returns-4
+returns-4 c = rule-answer _ Send _ _ (c .before .before .before .before .before .before .before .pre) refl (rw (lt-leb _ _ (c .before .before .before .before .before .if1 .left), lt-leb _ _ (c .before .before .before .if2 .left))) (ne-eqb _ _ (c .before .before .if3 .left)) (not-true _ (c .if4 .taken))
+
+returns-5 : tie.Need-returns-5
+returns-5 c = limit-answer _ Send _ _ (c .before .before .before .before .before .before .before .before .before .pre) refl (rw (lt-leb _ _ (c .before .before .before .before .before .before .before .if1 .left), lt-leb _ _ (c .before .before .before .before .before .if2 .left))) (ne-eqb _ _ (c .before .before .before .before .if3 .left)) (not-false _ (c .before .before .if4 .left)) (le-leb _ _ (c .if5 .taken))
+
+mul-unacked : tie.Need-mul-unacked
+mul-unacked c = search needs
+
+element-copy-out-unacked : tie.Need-element-copy-out-unacked
+element-copy-out-unacked c = search needs
+
+add-unacked : tie.Need-add-unacked
+add-unacked c = record { fits = omega (arith, unacked-small _ (c .before .before .before .before .before .before .before .before .before .before .pre .sound) (c .before .before .before .before .before .before .before .before .before .before .args .i) (omega (arith, c .before .before .before .before .before .before .before .before .before .before .pre .sound .nodes, c .before .before .before .before .before .before .before .before .if1 .left))) }
+
+element-write-unacked : tie.Need-element-write-unacked
+element-write-unacked c = search needs
+
+mul-transit : tie.Need-mul-transit
+mul-transit c = search needs
+
+add-transit : tie.Need-add-transit
+add-transit c = search needs
+
+mul-transit-2 : tie.Need-mul-transit-2
+mul-transit-2 c = search needs
+
+element-copy-out-transit : tie.Need-element-copy-out-transit
+element-copy-out-transit c = search needs
+
+add-transit-2 : tie.Need-add-transit-2
+add-transit-2 c = record { fits = omega (arith, transit-small _ (c .before .before .before .before .before .before .before .before .before .before .before .pre .sound) (c .before .before .before .before .before .before .before .before .before .before .before .args .i) (c .before .before .before .before .before .before .before .before .before .before .before .args .j) (omega (arith, c .before .before .before .before .before .before .before .before .before .before .before .pre .sound .nodes, c .before .before .before .before .before .before .before .before .before .if1 .left)) (omega (arith, c .before .before .before .before .before .before .before .before .before .before .before .pre .sound .nodes, c .before .before .before .before .before .before .before .if2 .left))) }
+
+element-write-transit : tie.Need-element-write-transit
+element-write-transit c = search needs
+
+add-t28 : tie.Need-add-t28
+add-t28 c = search needs
+
+returns-6 : tie.Need-returns-6
+returns-6 c = accepted-answer _ Send _ _ (c .before .before .before .before .before .before .before .before .before .before .before .before .pre) refl (rw (lt-leb _ _ (c .before .before .before .before .before .before .before .before .before .before .if1 .left), lt-leb _ _ (c .before .before .before .before .before .before .before .before .if2 .left))) (ne-eqb _ _ (c .before .before .before .before .before .before .before .if3 .left)) (not-false _ (c .before .before .before .before .before .if4 .left)) (lt-leb _ _ (c .before .before .before .if5 .left))
+
+pub send-spec : {M : Type 1} → statement M
+send-spec =
+    tie.close
+    (tie.spec
+    returns
+    returns-2
+    returns-3
+    element-copy-out-if4
+    returns-4
+    returns-5
+    mul-unacked
+    element-copy-out-unacked
+    add-unacked
+    element-write-unacked
+    mul-transit
+    add-transit
+    mul-transit-2
+    element-copy-out-transit
+    add-transit-2
+    element-write-transit
+    add-t28
+    returns-6)

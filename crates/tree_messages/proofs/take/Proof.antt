@@ -1,0 +1,112 @@
+use Prim.Native.Nat.{_*_, _+_}
+use borrow.Author.Needs.{needs}
+use borrow.Author.Tests.{le-leb, le-ltb, lt-leb, lt-ltb}
+use lib.Dec.{leb}
+use lib.ListN.{getD}
+use mathlib.Core.Path.{_∙_, ap, refl, sym}
+use native.Mathlib.Omega.{arith}
+use Rattle.laws.proofs.Tests.{left-true, right-true}
+use Rattle.tree_check.specs.Whole.{whole}
+use Rattle.tree_rules.proofs.Answers.{accepted-answer, acceptedAs, node-answer, rule-answer}
+use Rattle.tree_rules.proofs.Bounds.{acks-small}
+use Rattle.tree_rules.proofs.Facts.{take-engages, take-replies}
+use Rattle.tree_rules.specs.Rules.{Take}
+use Rattle.tree_messages.proofs.take.Statement.{statement}
+use Rattle.tree_messages.proofs.take.Tie as tie
+
+returns : tie.Need-returns
+returns c = node-answer _ Take _ _ (c .before .before .pre) refl (left-true _ (le-leb _ _ (c .if1 .taken)))
+
+returns-2 : tie.Need-returns-2
+returns-2 c = node-answer _ Take _ _ (c .before .before .before .before .pre) refl (right-true (leb (c .before .before .before .before .args .r .n) (c .before .before .before .before .args .i)) (le-leb _ _ (c .if2 .taken)))
+
+mul-if3 : tie.Need-mul-if3
+mul-if3 c = search needs
+
+add-if3 : tie.Need-add-if3
+add-if3 c = search needs
+
+mul-if3-2 : tie.Need-mul-if3-2
+mul-if3-2 c = search needs
+
+element-copy-out-if3 : tie.Need-element-copy-out-if3
+element-copy-out-if3 c = search needs
+
+returns-3 : tie.Need-returns-3
+returns-3 c = rule-answer _ Take _ _ (c .before .before .before .before .before .before .pre) refl (rw (lt-leb _ _ (c .before .before .before .before .if1 .left), lt-leb _ _ (c .before .before .if2 .left))) refl (le-ltb 0 (getD (c .before .before .before .before .before .before .args .transit .now) (c .before .before .before .before .before .before .args .k * 16 + c .before .before .before .before .before .before .args .i) 0) (omega arith))
+
+mul-transit : tie.Need-mul-transit
+mul-transit c = search needs
+
+add-transit : tie.Need-add-transit
+add-transit c = search needs
+
+mul-transit-2 : tie.Need-mul-transit-2
+mul-transit-2 c = search needs
+
+element-copy-out-transit : tie.Need-element-copy-out-transit
+element-copy-out-transit c = search needs
+
+sub-transit : tie.Need-sub-transit
+sub-transit c = search needs
+
+element-write-transit : tie.Need-element-write-transit
+element-write-transit c = search needs
+
+element-write-active : tie.Need-element-write-active
+element-write-active c = search needs
+
+engager-of-requires : tie.Need-engager-of-requires
+engager-of-requires c κs = search needs
+
+cast-engager : tie.Need-cast-engager
+cast-engager c = search needs
+
+element-write-engager : tie.Need-element-write-engager
+element-write-engager c = search needs
+
+returns-4 : tie.Need-returns-4
+returns-4 c = ap acceptedAs (take-engages (whole (c .before .before .before .before .before .before .before .before .before .before .args .r) (c .before .before .before .before .before .before .before .before .before .before .args .active .now) (c .before .before .before .before .before .before .before .before .before .before .args .engager .now) (c .before .before .before .before .before .before .before .before .before .before .args .unacked .now) (c .before .before .before .before .before .before .before .before .before .before .args .transit .now) (c .before .before .before .before .before .before .before .before .before .before .args .acks .now)) (c .before .before .before .before .before .before .before .before .before .before .args .i) (c .before .before .before .before .before .before .before .before .before .before .args .k) (sym (c .before .engager-of .ensures .0) ∙ c .if4 .taken)) ∙ accepted-answer _ Take _ _ (c .before .before .before .before .before .before .before .before .before .before .pre) refl (rw (lt-leb _ _ (c .before .before .before .before .before .before .before .before .if1 .left), lt-leb _ _ (c .before .before .before .before .before .before .if2 .left))) refl (lt-ltb 0 (getD (c .before .before .before .before .before .before .before .before .before .before .args .transit .now) (c .before .before .before .before .before .before .before .before .before .before .args .k * 16 + c .before .before .before .before .before .before .before .before .before .before .args .i) 0) (omega arith)) refl
+
+mul-acks : tie.Need-mul-acks
+mul-acks c = search needs
+
+element-copy-out-acks : tie.Need-element-copy-out-acks
+element-copy-out-acks c = search needs
+
+add-acks : tie.Need-add-acks
+add-acks c = record { fits = omega (arith, acks-small _ (c .before .before .before .before .before .before .before .before .before .before .before .pre .sound) (c .before .before .before .before .before .before .before .before .before .before .before .args .k) (omega (arith, c .before .before .before .before .before .before .before .before .before .before .before .pre .sound .nodes, c .before .before .before .before .before .before .before .if2 .left))) }
+
+element-write-acks : tie.Need-element-write-acks
+element-write-acks c = search needs
+
+returns-5 : tie.Need-returns-5
+returns-5 c = ap acceptedAs (take-replies (whole (c .before .before .before .before .before .before .before .before .before .before .before .args .r) (c .before .before .before .before .before .before .before .before .before .before .before .args .active .now) (c .before .before .before .before .before .before .before .before .before .before .before .args .engager .now) (c .before .before .before .before .before .before .before .before .before .before .before .args .unacked .now) (c .before .before .before .before .before .before .before .before .before .before .before .args .transit .now) (c .before .before .before .before .before .before .before .before .before .before .before .args .acks .now)) (c .before .before .before .before .before .before .before .before .before .before .before .args .i) (c .before .before .before .before .before .before .before .before .before .before .before .args .k) (λ e. c .before .if4 .left (c .before .before .engager-of .ensures .0 ∙ e))) ∙ accepted-answer _ Take _ _ (c .before .before .before .before .before .before .before .before .before .before .before .pre) refl (rw (lt-leb _ _ (c .before .before .before .before .before .before .before .before .before .if1 .left), lt-leb _ _ (c .before .before .before .before .before .before .before .if2 .left))) refl (lt-ltb 0 (getD (c .before .before .before .before .before .before .before .before .before .before .before .args .transit .now) (c .before .before .before .before .before .before .before .before .before .before .before .args .k * 16 + c .before .before .before .before .before .before .before .before .before .before .before .args .i) 0) (omega arith)) refl
+
+pub take-spec : {M : Type 1} → statement M
+take-spec =
+    tie.close
+    (tie.spec
+    returns
+    returns-2
+    mul-if3
+    add-if3
+    mul-if3-2
+    element-copy-out-if3
+    returns-3
+    mul-transit
+    add-transit
+    mul-transit-2
+    element-copy-out-transit
+    sub-transit
+    element-write-transit
+    element-write-active
+    engager-of-requires
+    cast-engager
+    element-write-engager
+    returns-4
+    mul-acks
+    element-copy-out-acks
+    add-acks
+    element-write-acks
+    returns-5)

@@ -1,0 +1,152 @@
+// The steps of messages over lent columns, of an open state: send, take and idle.
+use refusal::Refusal;
+use refusal::Verdict;
+use tree_check::Rest;
+use tree_check::Told;
+ghost use mathlib.Core.Path.{_≡_};
+ghost use Rattle.tree_rules.specs.Rules.{Send, Take, Idle};
+ghost use Rattle.tree_rules.specs.Soundness.{Open};
+ghost use Rattle.tree_rules.specs.Answers.{answerOf};
+ghost use Rattle.tree_check.specs.Whole.{whole};
+ghost use Rattle.tree_check.specs.Told.{answer};
+
+// Rule 1.
+pub fn send<'a>(
+    r: Rest,
+    active: &'a [bool; 16],
+    engager: &'a [u8; 16],
+    unacked: &mut [u32; 16],
+    transit: &mut [u32; 256],
+    acks: &'a [u32; 16],
+    i: usize,
+    j: usize,
+) -> Told
+    requires { ⌜ Open (whole r (now active) (now engager) (now unacked) (now transit) (now acks)) ⌝ }
+    ensures { λ d. ⌜ answer (d .verdict) (whole (d .rest) (now (active .entry)) (now (engager .entry)) (now (unacked .exit)) (now (transit .exit)) (now (acks .entry)))
+        ≡ answerOf (whole r (now (active .entry)) (now (engager .entry)) (now (unacked .entry)) (now (transit .entry)) (now (acks .entry))) Send i j ⌝ }
+{
+    if r.n <= i {
+        return Told {
+            verdict: Verdict::Refused(Refusal::UnknownNode),
+            rest: r,
+        };
+    }
+    if r.n <= j {
+        return Told {
+            verdict: Verdict::Refused(Refusal::UnknownNode),
+            rest: r,
+        };
+    }
+    if i == j {
+        return Told {
+            verdict: Verdict::Refused(Refusal::SelfMessage),
+            rest: r,
+        };
+    }
+    if !active[i] {
+        return Told {
+            verdict: Verdict::Refused(Refusal::RuleFails),
+            rest: r,
+        };
+    }
+    if 1000000 <= r.sends {
+        return Told {
+            verdict: Verdict::Refused(Refusal::SendLimit),
+            rest: r,
+        };
+    }
+    unacked[i] += 1;
+    transit[i * 16 + j] += 1;
+    let rest = Rest {
+        n: r.n,
+        root: r.root,
+        sends: r.sends + 1,
+        closed: r.closed,
+    };
+    Told {
+        verdict: Verdict::Accepted,
+        rest: rest,
+    }
+}
+
+// Rule 2.
+pub fn take<'a>(
+    r: Rest,
+    active: &mut [bool; 16],
+    engager: &mut [u8; 16],
+    unacked: &'a [u32; 16],
+    transit: &mut [u32; 256],
+    acks: &mut [u32; 16],
+    i: usize,
+    k: usize,
+) -> Told
+    requires { ⌜ Open (whole r (now active) (now engager) (now unacked) (now transit) (now acks)) ⌝ }
+    ensures { λ d. ⌜ answer (d .verdict) (whole (d .rest) (now (active .exit)) (now (engager .exit)) (now (unacked .entry)) (now (transit .exit)) (now (acks .exit)))
+        ≡ answerOf (whole r (now (active .entry)) (now (engager .entry)) (now (unacked .entry)) (now (transit .entry)) (now (acks .entry))) Take i k ⌝ }
+{
+    if r.n <= i {
+        return Told {
+            verdict: Verdict::Refused(Refusal::UnknownNode),
+            rest: r,
+        };
+    }
+    if r.n <= k {
+        return Told {
+            verdict: Verdict::Refused(Refusal::UnknownNode),
+            rest: r,
+        };
+    }
+    if transit[k * 16 + i] == 0 {
+        return Told {
+            verdict: Verdict::Refused(Refusal::RuleFails),
+            rest: r,
+        };
+    }
+    transit[k * 16 + i] -= 1;
+    active[i] = true;
+    if tree_check::engager_of(engager, i) == 16 {
+        engager[i] = k as u8;
+        return Told {
+            verdict: Verdict::Accepted,
+            rest: r,
+        };
+    }
+    acks[k] += 1;
+    Told {
+        verdict: Verdict::Accepted,
+        rest: r,
+    }
+}
+
+// Rule 3.
+pub fn idle<'a>(
+    r: Rest,
+    active: &mut [bool; 16],
+    engager: &'a [u8; 16],
+    unacked: &'a [u32; 16],
+    transit: &'a [u32; 256],
+    acks: &'a [u32; 16],
+    i: usize,
+) -> Told
+    requires { ⌜ Open (whole r (now active) (now engager) (now unacked) (now transit) (now acks)) ⌝ }
+    ensures { λ d. ⌜ answer (d .verdict) (whole (d .rest) (now (active .exit)) (now (engager .entry)) (now (unacked .entry)) (now (transit .entry)) (now (acks .entry)))
+        ≡ answerOf (whole r (now (active .entry)) (now (engager .entry)) (now (unacked .entry)) (now (transit .entry)) (now (acks .entry))) Idle i 0 ⌝ }
+{
+    if r.n <= i {
+        return Told {
+            verdict: Verdict::Refused(Refusal::UnknownNode),
+            rest: r,
+        };
+    }
+    if !active[i] {
+        return Told {
+            verdict: Verdict::Refused(Refusal::RuleFails),
+            rest: r,
+        };
+    }
+    active[i] = false;
+    Told {
+        verdict: Verdict::Accepted,
+        rest: r,
+    }
+}
