@@ -10,7 +10,6 @@ use native.Mathlib.Omega.{arith}
 use Rattle.decimal.proofs.Put.{put-then}
 use Rattle.decimal.specs.Text.{put}
 use Rattle.forms.proofs.Lines.{line-rest}
-use Rattle.forms.specs.Form.{line}
 use Rattle.log_first.specs.Open.{Begins, Begun, SoundStage, stageBy}
 use Rattle.log_lines.specs.Lines.{part}
 use Rattle.log_rules.proofs.Cuts.{rest-full, rest-held, rest-more, rest-over}

@@ -8,7 +8,6 @@ use mathlib.Core.Logic.{_⊎_, inl, inr}
 use mathlib.Core.Path.{_∙_, _≡_, ap, refl, subst, subst⁻¹, sym}
 use native.Mathlib.Omega.{arith}
 use Rattle.forms.proofs.Lines.{line-rest}
-use Rattle.forms.specs.Form.{line}
 use Rattle.log_first.specs.Open.{SoundStage}
 use Rattle.log_lines.specs.Lines.{part}
 use Rattle.log_rules.proofs.Cuts.{long-told, rest-full, rest-line, rest-long}

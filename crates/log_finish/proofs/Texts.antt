@@ -7,7 +7,6 @@ use mathlib.Core.Logic.{_⊎_, inl, inr}
 use mathlib.Core.Path.{_∙_, _≡_, ap, subst⁻¹}
 use native.Mathlib.Omega.{arith}
 use Rattle.decimal.proofs.Put.{put-then}
-use Rattle.forms.specs.Form.{line}
 use Rattle.log.proofs.Held.{held-some}
 use Rattle.log.specs.Feed.{stageOf}
 use Rattle.log.specs.declared.Log.{Log}

@@ -5,7 +5,6 @@ use mathlib.Core.List.{List, [], _++_, append-assoc, append-nil}
 use mathlib.Core.Path.{_∙_, _≡_, ap, refl, sym}
 use native.Mathlib.Omega.{arith}
 use Rattle.decimal.proofs.Put.{put-stands}
-use Rattle.forms.specs.Form.{line}
 use Rattle.log.specs.Feed.{stageOf}
 use Rattle.log.specs.declared.Log.{Log}
 use Rattle.log_rules.specs.Output.{outputOf, restOf}

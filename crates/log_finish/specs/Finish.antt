@@ -4,7 +4,6 @@ use lib.Dec.{ltb}
 use lib.ListN.{length}
 use mathlib.Core.Bool.{cond}
 use mathlib.Core.List.{List, []}
-use Rattle.forms.specs.Form.{line}
 use Rattle.log.specs.Feed.{stageOf}
 use Rattle.log.specs.declared.Log.{Log}
 use Rattle.log_rules.specs.Answers.{answerText}

@@ -3,7 +3,6 @@ use Prim.Native.Nat.{ℕ}
 use lib.ListN.{take}
 use mathlib.Core.List.{List, [], _++_, _∷_}
 use mathlib.Core.Path.{_≡_}
-use Rattle.forms.specs.Form.{line}
 use Rattle.log.specs.Feed.{FedFrom, stageOf}
 use Rattle.log.specs.declared.Fed.{Fed}
 use Rattle.log.specs.declared.Log.{Log}

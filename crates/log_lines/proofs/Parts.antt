@@ -6,7 +6,6 @@ use mathlib.Core.List.{List, [], _++_, _∷_, append-assoc, append-nil}
 use mathlib.Core.Path.{_∙_, _≡_, ap, refl, sym}
 use native.Mathlib.Numerals.{add-one}
 use native.Mathlib.Omega.{arith}
-use Rattle.forms.specs.Form.{line}
 use Rattle.log_lines.specs.Lines.{part}
 use Rattle.decimal.proofs.Cases as cases
 

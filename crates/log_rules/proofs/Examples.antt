@@ -1,12 +1,11 @@
 -- The examples, by one computation over the definitions. Assumes nothing.
 use mathlib.Core.Path.{refl}
 use Rattle.color.specs.Colors.{blackened, isBlack, whitened}
-use Rattle.decimal.specs.Bytes.{bytes}
 use Rattle.decimal.specs.Number.{checked, keptOf, scanOf}
 use Rattle.decimal.specs.Text.{decimal, digits}
 use Rattle.decimal.specs.Word.{starts}
 use Rattle.first_line.specs.Read.{entriesOf, entryOf, firstAt, listsAt, ringAfter, rootAfter, startAt, treeAfter}
-use Rattle.forms.specs.Form.{announce, line, pass, probe}
+use Rattle.forms.specs.Form.{line}
 use Rattle.forms.specs.Read.{closedOf, madeOf, oneOf, readBy, ringAt, secondOf, spacedOf, treeAt, twoOf}
 use Rattle.laws.specs.Places.{countTo}
 use Rattle.laws.specs.Sums.{sumTo}

@@ -6,7 +6,6 @@ use mathlib.Core.Bool.{Bool, cond, false, true}
 use mathlib.Core.List.{List, [], _++_, _∷_}
 use mathlib.Core.Path.{_≡_}
 use Rattle.decimal.specs.Text.{put}
-use Rattle.forms.specs.Form.{line}
 use Rattle.refusal.specs.declared.Refusal.the-variants.{NotAForm}
 use Rattle.refusal.specs.declared.Verdict.the-variants.{Refused}
 use Rattle.log_rules.specs.Answers.{Stage, Told, answerText, fresh, onRing, onTree, opened, over}

@@ -27,6 +27,10 @@ abbrev pub codeOf : Verdict → ℕ
 codeOf Accepted = 0
 codeOf (Refused e) = numberOf e
 
+-- the most sends of one run
+abbrev pub sendLimit : ℕ
+sendLimit = 1000000
+
 -- a row: where the condition holds, the request is refused so
 pub record Row : Type 0 where
   pub holds : Bool

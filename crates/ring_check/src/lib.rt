@@ -8,7 +8,8 @@ ghost use lib.IntN.{natAbs};
 ghost use lib.Signed.{mag};
 ghost use Rattle.laws.specs.Places.{total};
 ghost use Rattle.ring_rules.specs.Rules.{conclusive, mayProbe, mayPass};
-ghost use Rattle.ring_rules.specs.Soundness.{Shape, sendLimit, passiveAbove, whiteTo, safraTest, unusedTest, soundTest};
+ghost use Rattle.ring_rules.specs.Soundness.{Shape, passiveAbove, whiteTo, safraTest, unusedTest, soundTest};
+ghost use Rattle.refusal.specs.Table.{sendLimit};
 ghost use Rattle.ring_check.specs.Whole.{whole, InRange};
 
 // What of a ring is not a column.

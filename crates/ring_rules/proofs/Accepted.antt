@@ -8,13 +8,13 @@ use mathlib.Core.Path.{_≡_, ap, refl, sym}
 use Rattle.laws.proofs.Tests.{both, both-true, false-true, left-true, neither, not-eq, one-of, right-true}
 use Rattle.laws.specs.Places.{total}
 use Rattle.refusal.proofs.Table.{accepts, none-holds}
-use Rattle.refusal.specs.Table.{NoneHolds, also, none}
+use Rattle.refusal.specs.Table.{NoneHolds, also, none, sendLimit}
 use Rattle.refusal.specs.declared.Verdict.the-variants.{Accepted}
 use Rattle.signed.specs.Integers.{isPositive, isZero}
 use Rattle.ring_rules.proofs.Soundness.{sound-true, true-sound}
 use Rattle.ring_rules.specs.Answers.{outside, sendsSpent, stepTable, toSelf, unknown, verdictOf}
 use Rattle.ring_rules.specs.Rules.{Announce, Idle, Kind, Pass, Probe, Send, Take, Unknown, conclusive, guard, mayPass, mayProbe}
-use Rattle.ring_rules.specs.Soundness.{Open, Sound, sendLimit}
+use Rattle.ring_rules.specs.Soundness.{Open, Sound}
 use Rattle.ring_rules.specs.State.{State, activeAt, blackAt, counter, pendingAt}
 
 -- the test of rule 6

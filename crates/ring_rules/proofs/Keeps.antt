@@ -1,5 +1,5 @@
 -- Every accepted step of a sound state gives a sound state: Safra's invariant. Assumes nothing.
-use Prim.Native.Nat.{_*_, _+_, _-_, _/_, _<_, _≤_, suc, zero, ℕ}
+use Prim.Native.Nat.{_*_, _+_, _-_, _/_, _<_, _≤_, suc, ℕ}
 use lib.Ieee.{size}
 use lib.ListN.{length, length-set}
 use lib.Seq.{getD-set-other, getD-set-same}

@@ -4,11 +4,11 @@ use lib.Dec.{eqb, leb}
 use mathlib.Core.Bool.{Bool, _||_, false, not, true}
 use mathlib.Core.List.{List, [], _∷_}
 use Rattle.laws.specs.Places.{total}
-use Rattle.refusal.specs.Table.{Row, _⟶_, firstOf, settle}
+use Rattle.refusal.specs.Table.{_⟶_, Row, firstOf, sendLimit, settle}
 use Rattle.refusal.specs.declared.Refusal.the-variants.{Closed, RuleFails, SelfMessage, SendLimit, UnknownKind, UnknownNode, Unsound}
 use Rattle.refusal.specs.declared.Verdict.{Verdict}
 use Rattle.ring_rules.specs.Rules.{Announce, Idle, Kind, Pass, Probe, Send, Take, Unknown, effect, guard, kindOf}
-use Rattle.ring_rules.specs.Soundness.{sendLimit, soundTest}
+use Rattle.ring_rules.specs.Soundness.{soundTest}
 use Rattle.ring_rules.specs.State.{State}
 
 abbrev pub unknown : Kind → Bool

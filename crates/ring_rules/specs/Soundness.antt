@@ -7,14 +7,11 @@ use lib.IntN.{_+ℤ_, natAbs}
 use lib.Dec.{ltb, leb, eqb}
 use lib.ListN.{length, getD}
 use Rattle.laws.specs.Places.{total, allTo}
+use Rattle.refusal.specs.Table.{sendLimit}
 use Rattle.signed.specs.Integers.{isPositive, isSame}
 use Rattle.color.specs.Colors.{isBlack}
 use Rattle.ring_rules.specs.State.{State, activeAt, blackAt, sentAt, receivedAt, pendingAt, countersTo, countersAbove}
 use Rattle.ring_rules.specs.Rules.{conclusive}
-
--- the most sends of one run
-abbrev pub sendLimit : ℕ
-sendLimit = 1000000
 
 -- ---- as facts
 

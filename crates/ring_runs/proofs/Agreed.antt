@@ -7,7 +7,7 @@ use mathlib.Core.Path.{_∙_, _≡_, ap, refl, subst, sym}
 use native.Mathlib.Decide.{decLt}
 use native.Mathlib.Omega.{arith}
 use Rattle.laws.proofs.Tests.{false-true, split}
-use Rattle.refusal.specs.Table.{settle}
+use Rattle.refusal.specs.Table.{sendLimit, settle}
 use Rattle.refusal.specs.declared.Refusal.the-variants.{SendLimit}
 use Rattle.refusal.specs.declared.Verdict.{Verdict}
 use Rattle.refusal.specs.declared.Verdict.the-variants.{Accepted, Refused}
@@ -16,7 +16,7 @@ use Rattle.ring_rules.proofs.Answers.{limit-answer}
 use Rattle.ring_rules.proofs.Quiet.{conclusive-quiet}
 use Rattle.ring_rules.specs.Answers.{Answer, answerOf, stepOf, verdictOf}
 use Rattle.ring_rules.specs.Rules.{Announce, Idle, Kind, Pass, Probe, Send, Take, Unknown, effect, kindOf}
-use Rattle.ring_rules.specs.Soundness.{Sound, sendLimit}
+use Rattle.ring_rules.specs.Soundness.{Sound}
 use Rattle.ring_rules.specs.State.{State}
 use Rattle.signed.specs.Integers.{isPositive}
 use Rattle.ring_runs.proofs.Steps.{action-rule, detected-of, of-again, of-detected, rule-action}

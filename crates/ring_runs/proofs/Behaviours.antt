@@ -7,7 +7,7 @@ use mathlib.Core.Path.{_∙_, _≡_, ap, refl, subst, sym}
 use native.Mathlib.Bridge.{le-prop}
 use native.Mathlib.Omega.{arith}
 use Rattle.laws.proofs.Places.{total-set-in, total-zeros}
-use Rattle.refusal.specs.Table.{settle}
+use Rattle.refusal.specs.Table.{sendLimit, settle}
 use Rattle.refusal.specs.declared.Verdict.{Verdict}
 use Rattle.refusal.specs.declared.Verdict.the-variants.{Accepted}
 use Rattle.ring_rules.proofs.Accepted.{Rule, accepted, sends}
@@ -15,7 +15,7 @@ use Rattle.ring_rules.proofs.Start.{fits}
 use Rattle.ring_rules.proofs.Theorems.{sound-kept, start-answered}
 use Rattle.ring_rules.specs.Answers.{verdictOf}
 use Rattle.ring_rules.specs.Rules.{Announce, Idle, Kind, Pass, Probe, Send, Take, effect, kindOf}
-use Rattle.ring_rules.specs.Soundness.{Sound, sendLimit}
+use Rattle.ring_rules.specs.Soundness.{Sound}
 use Rattle.ring_rules.specs.Start.{firstState, startOf, startVerdict}
 use Rattle.ring_rules.specs.State.{State, sentAt}
 use Rattle.runs.proofs.Runs.{Run, accepted-append, kept, run-append, run-of, stop, took}

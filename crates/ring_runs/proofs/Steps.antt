@@ -8,7 +8,8 @@ use native.Mathlib.Omega.{arith}
 use Rattle.laws.specs.Places.{total}
 use Rattle.ring_rules.proofs.Accepted.{Again, Conclusion, Rule, announces, idles, passes, probes, sends, sum-above, takes, token-black, zero-black}
 use Rattle.ring_rules.specs.Rules.{Announce, Idle, Kind, Pass, Probe, Send, Take, effect}
-use Rattle.ring_rules.specs.Soundness.{Sound, sendLimit}
+use Rattle.ring_rules.specs.Soundness.{Sound}
+use Rattle.refusal.specs.Table.{sendLimit}
 use Rattle.ring_rules.specs.State.{State, blackAt, counter, pendingAt}
 use Rattle.signed.proofs.Parts.{is-zero, zero-is}
 use Rattle.signed.specs.Integers.{isPositive}

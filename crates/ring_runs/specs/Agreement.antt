@@ -10,10 +10,10 @@ use mathlib.Core.Path.{_≡_}
 use Rattle.laws.specs.Places.{total}
 use Rattle.refusal.specs.declared.Refusal.the-variants.{SendLimit}
 use Rattle.refusal.specs.declared.Verdict.the-variants.{Accepted, Refused}
-use Rattle.ring_rules.proofs.Accepted.{accepted}
 use Rattle.ring_rules.specs.Answers.{stepOf}
 use Rattle.ring_rules.specs.Rules.{Announce, Send, kindOf}
-use Rattle.ring_rules.specs.Soundness.{Safra, Sound, sendLimit}
+use Rattle.ring_rules.specs.Soundness.{Safra, Sound}
+use Rattle.refusal.specs.Table.{sendLimit}
 use Rattle.ring_rules.specs.Start.{flagActive, flagBlack, startOf, startVerdict}
 use Rattle.ring_rules.specs.State.{State}
 use Rattle.runs.specs.Runs.{Request, acceptedOf, runOf}

@@ -2,24 +2,20 @@
 use Prim.Native.Nat.{_*_, _+_, _<_, _≤_, ℕ}
 use borrow.Author.Tests.{eq-eqb, le-leb, le-ltb, lt-leb, lt-ltb, ne-eqb}
 use lib.Dec.{eqb, leb, ltb}
-use lib.ListN.{getD, length}
-use lib.Seq.{getD-set-same, set-getD}
+use lib.ListN.{getD}
 use mathlib.Core.Bool.{Bool, _&&_, _||_, cond, false, not, true}
 use mathlib.Core.List.{List}
 use mathlib.Core.Logic.{_≢_}
-use mathlib.Core.Path.{_∙_, _≡_, ap, fun-ext, refl, sym}
+use mathlib.Core.Path.{_≡_, ap, fun-ext, refl}
 use native.Mathlib.Numerals.{add-one}
 use Rattle.laws.proofs.Places.{all-next}
 use Rattle.laws.specs.Places.{allTo, countTo}
 use Rattle.laws.specs.Sums.{sumTo}
 use Rattle.tree_rules.proofs.Soundness.{true-shape}
 use Rattle.tree_rules.specs.Rules.{conclusive}
-use Rattle.tree_rules.specs.Soundness.{Shape, closedTest, limitTest, pairTest, placeTest, rangeTest, sendLimit, soundTest}
+use Rattle.tree_rules.specs.Soundness.{Shape, closedTest, limitTest, pairTest, placeTest, rangeTest, soundTest}
+use Rattle.refusal.specs.Table.{sendLimit}
 use Rattle.tree_rules.specs.State.{State, engagerAt, unackedAt}
-
--- inside a column the default is not read
-pub any-default : {A : Type 0} (l : List A) (i : ℕ) (d e : A) → i < length l → getD l i d ≡ getD l i e
-any-default l i d e h = sym (getD-set-same l i (getD l i d) e h) ∙ rw (set-getD l i d)
 
 pub count-next : (n : ℕ) (p : ℕ → Bool) → countTo (n + 1) p ≡ countTo n p + cond (p n) 1 0
 unfolding countTo

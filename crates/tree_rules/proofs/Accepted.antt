@@ -6,13 +6,13 @@ use mathlib.Core.Logic.{_≢_}
 use mathlib.Core.Path.{_≡_, ap, refl, sym}
 use Rattle.laws.proofs.Tests.{both, both-true, false-true, neither, not-eq}
 use Rattle.refusal.proofs.Table.{accepts, none-holds}
-use Rattle.refusal.specs.Table.{NoneHolds, also, none}
+use Rattle.refusal.specs.Table.{NoneHolds, also, none, sendLimit}
 use Rattle.refusal.specs.declared.Verdict.the-variants.{Accepted}
 use Rattle.tree_rules.proofs.Facts.{engaged-true, true-engaged}
 use Rattle.tree_rules.proofs.Soundness.{sound-true, true-sound}
 use Rattle.tree_rules.specs.Answers.{outside, sendsSpent, stepTable, toSelf, unknown, verdictOf}
 use Rattle.tree_rules.specs.Rules.{Ack, Announce, Idle, Kind, Leave, Send, Take, Unknown, conclusive, guard, mayLeave}
-use Rattle.tree_rules.specs.Soundness.{Open, Sound, sendLimit}
+use Rattle.tree_rules.specs.Soundness.{Open, Sound}
 use Rattle.tree_rules.specs.State.{State, acksAt, activeAt, engagerAt, transitAt, unackedAt}
 
 -- the test of rule 6

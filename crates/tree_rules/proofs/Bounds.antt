@@ -7,7 +7,8 @@ use Rattle.laws.proofs.Sums.{sum-term}
 use Rattle.tree_rules.proofs.Accepted.{leave-true}
 use Rattle.tree_rules.proofs.Facts.{facts, transit-unacked}
 use Rattle.tree_rules.specs.Rules.{mayLeave}
-use Rattle.tree_rules.specs.Soundness.{Sound, sendLimit}
+use Rattle.tree_rules.specs.Soundness.{Sound}
+use Rattle.refusal.specs.Table.{sendLimit}
 use Rattle.tree_rules.specs.State.{State, acksAt, engagerAt, transitAt, unackedAt}
 
 module _ (t : State) (s : Sound t) where

@@ -14,7 +14,8 @@ use Rattle.laws.specs.Sums.{sumTo}
 use Rattle.tree_rules.proofs.Chains.{climb-any}
 use Rattle.tree_rules.proofs.Sums.{no-child}
 use Rattle.tree_rules.specs.Rules.{conclusive, engageOf, replyOf, takeOf}
-use Rattle.tree_rules.specs.Soundness.{Resting, Shape, Sound, Unused, sendLimit}
+use Rattle.tree_rules.specs.Soundness.{Resting, Shape, Sound, Unused}
+use Rattle.refusal.specs.Table.{sendLimit}
 use Rattle.tree_rules.specs.State.{State, acksAt, activeAt, children, climb, engaged, engagerAt, isChild, messagesFrom, transitAt, unackedAt}
 
 -- unacked of j is made up of its messages, its acknowledgements and the nodes under it

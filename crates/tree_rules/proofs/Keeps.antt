@@ -13,7 +13,8 @@ use Rattle.tree_rules.proofs.Engages.{leave-keeps, take-keeps}
 use Rattle.tree_rules.proofs.Facts.{Balanced, Facts, active-engaged, facts, in-acks, in-range, in-transit, in-unacked, sound, still-open}
 use Rattle.tree_rules.proofs.Sums.{from-raised}
 use Rattle.tree_rules.specs.Rules.{Ack, Announce, Idle, Kind, Leave, Send, Take, ackOf, announceOf, effect, idleOf, sendOf}
-use Rattle.tree_rules.specs.Soundness.{Sound, sendLimit}
+use Rattle.tree_rules.specs.Soundness.{Sound}
+use Rattle.refusal.specs.Table.{sendLimit}
 use Rattle.tree_rules.specs.State.{State, acksAt, activeAt, engagerAt, unackedAt}
 
 module _ (t : State) (f : Facts t) (running : t .closed ≡ false) where

@@ -3,11 +3,11 @@ use Prim.Native.Nat.{ℕ}
 use lib.Dec.{eqb, leb}
 use mathlib.Core.Bool.{Bool, _||_, false, not, true}
 use mathlib.Core.List.{List, [], _∷_}
-use Rattle.refusal.specs.Table.{Row, _⟶_, firstOf, settle}
+use Rattle.refusal.specs.Table.{_⟶_, Row, firstOf, sendLimit, settle}
 use Rattle.refusal.specs.declared.Refusal.the-variants.{Closed, RuleFails, SelfMessage, SendLimit, UnknownKind, UnknownNode, Unsound}
 use Rattle.refusal.specs.declared.Verdict.{Verdict}
 use Rattle.tree_rules.specs.Rules.{Ack, Announce, Idle, Kind, Leave, Send, Take, Unknown, effect, guard, kindOf}
-use Rattle.tree_rules.specs.Soundness.{sendLimit, soundTest}
+use Rattle.tree_rules.specs.Soundness.{soundTest}
 use Rattle.tree_rules.specs.State.{State}
 
 abbrev pub unknown : Kind → Bool

@@ -7,12 +7,9 @@ use mathlib.Core.Logic.{_⊎_}
 use mathlib.Core.Path.{_≡_}
 use Rattle.laws.specs.Places.{allTo}
 use Rattle.laws.specs.Sums.{sumTo}
+use Rattle.refusal.specs.Table.{sendLimit}
 use Rattle.tree_rules.specs.Rules.{conclusive}
 use Rattle.tree_rules.specs.State.{State, acksAt, activeAt, children, climb, engaged, engagerAt, messagesFrom, transitAt, unackedAt}
-
--- the most sends of one run
-abbrev pub sendLimit : ℕ
-sendLimit = 1000000
 
 -- ---- as facts
 

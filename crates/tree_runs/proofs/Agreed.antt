@@ -7,7 +7,7 @@ use mathlib.Core.Path.{_∙_, _≡_, ap, refl, subst, sym}
 use native.Mathlib.Decide.{decLt, ℕ-discrete}
 use native.Mathlib.Omega.{arith}
 use Rattle.laws.proofs.Tests.{false-true, split}
-use Rattle.refusal.specs.Table.{settle}
+use Rattle.refusal.specs.Table.{sendLimit, settle}
 use Rattle.refusal.specs.declared.Refusal.the-variants.{SelfMessage, SendLimit}
 use Rattle.refusal.specs.declared.Verdict.{Verdict}
 use Rattle.refusal.specs.declared.Verdict.the-variants.{Accepted, Refused}
@@ -17,7 +17,7 @@ use Rattle.tree_rules.proofs.Facts.{facts}
 use Rattle.tree_rules.proofs.Quiet.{alone, at-rest, conclusive-quiet}
 use Rattle.tree_rules.specs.Answers.{Answer, answerOf, outside, stepOf, verdictOf}
 use Rattle.tree_rules.specs.Rules.{Ack, Announce, Idle, Kind, Leave, Send, Take, Unknown, effect, kindOf}
-use Rattle.tree_rules.specs.Soundness.{Open, Resting, Sound, sendLimit}
+use Rattle.tree_rules.specs.Soundness.{Open, Resting, Sound}
 use Rattle.tree_rules.specs.State.{State, activeAt, engagerAt}
 use Rattle.tree_runs.proofs.Change.{null-engaged}
 use Rattle.tree_runs.proofs.Steps.{action-rule, of-signal, rule-action, signal-of}

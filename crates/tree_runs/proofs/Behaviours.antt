@@ -6,7 +6,7 @@ use mathlib.Core.Logic.{_≢_}
 use mathlib.Core.Path.{_∙_, _≡_, ap, refl, subst, sym}
 use native.Mathlib.Bridge.{le-prop}
 use native.Mathlib.Omega.{arith}
-use Rattle.refusal.specs.Table.{settle}
+use Rattle.refusal.specs.Table.{sendLimit, settle}
 use Rattle.refusal.specs.declared.Verdict.{Verdict}
 use Rattle.runs.proofs.Runs.{Run, accepted-append, kept, run-append, run-of, stop, took}
 use Rattle.runs.specs.Runs.{Accepts, Request, acceptedOf, next, runOf}
@@ -15,7 +15,7 @@ use Rattle.tree_rules.proofs.Facts.{take-cases}
 use Rattle.tree_rules.proofs.Theorems.{sound-kept, start-answered}
 use Rattle.tree_rules.specs.Answers.{verdictOf}
 use Rattle.tree_rules.specs.Rules.{Ack, Announce, Idle, Kind, Leave, Send, Take, effect, kindOf}
-use Rattle.tree_rules.specs.Soundness.{Sound, sendLimit}
+use Rattle.tree_rules.specs.Soundness.{Sound}
 use Rattle.tree_rules.specs.Start.{firstState, startOf}
 use Rattle.tree_rules.specs.State.{State}
 use Rattle.tree_runs.proofs.Agreed.{isSend, other-kind}

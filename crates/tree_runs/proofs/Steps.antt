@@ -9,7 +9,8 @@ use native.Mathlib.Omega.{arith}
 use Rattle.tree_rules.proofs.Accepted.{Conclusion, Leaver, Rule, acknowledges, announces, idles, leaves, sends, takes}
 use Rattle.tree_rules.proofs.Facts.{Facts, facts, in-acks, in-engager, in-range, in-transit, in-unacked, take-cases, take-engages, take-replies}
 use Rattle.tree_rules.specs.Rules.{Ack, Announce, Idle, Kind, Leave, Send, Take, effect, leaveOf, takeOf}
-use Rattle.tree_rules.specs.Soundness.{Sound, sendLimit}
+use Rattle.tree_rules.specs.Soundness.{Sound}
+use Rattle.refusal.specs.Table.{sendLimit}
 use Rattle.tree_rules.specs.State.{State, acksAt, engagerAt, transitAt, unackedAt}
 use Rattle.tree_runs.proofs.Change.{addr-of, engaged-null, null-engaged, null-of, of-addr, of-null, pair-but, set-but}
 use Rattle.tree_runs.specs.Agreement.{rootOf}

@@ -11,7 +11,8 @@ use Rattle.refusal.specs.declared.Verdict.the-variants.{Accepted, Refused}
 use Rattle.runs.specs.Runs.{Request, acceptedOf, runOf}
 use Rattle.tree_rules.specs.Answers.{stepOf}
 use Rattle.tree_rules.specs.Rules.{Announce, Send, kindOf}
-use Rattle.tree_rules.specs.Soundness.{Sound, sendLimit}
+use Rattle.tree_rules.specs.Soundness.{Sound}
+use Rattle.refusal.specs.Table.{sendLimit}
 use Rattle.tree_rules.specs.Start.{startOf, startVerdict}
 use Rattle.tree_rules.specs.State.{State}
 use Rattle.tree_runs.specs.Counts.{tree}

@@ -1,18 +1,12 @@
 -- The text, node by node and child by child. Assumes nothing.
 use Prim.Native.Nat.{_+_, _-_, _<_, _≤_, suc, zero, ℕ}
-use lib.ListN.{getD, length}
-use lib.Seq.{getD-set-same, set-getD}
 use mathlib.Core.Bool.{false, true}
 use mathlib.Core.List.{List, [], _++_, _∷_}
 use mathlib.Core.Logic.{_≢_}
-use mathlib.Core.Path.{_∙_, _≡_, ap, refl, sym}
+use mathlib.Core.Path.{_∙_, _≡_, ap, refl}
 use native.Mathlib.Omega.{arith}
 use Rattle.decimal.specs.Text.{decimal}
 use Rattle.tree_text.specs.Text.{childrenText, closing, isUnder, listText, nodeText, opening, space}
-
--- inside a column the default is not read
-pub any-default : (l : List ℕ) (i d e : ℕ) → i < length l → getD l i d ≡ getD l i e
-any-default l i d e h = sym (getD-set-same l i (getD l i d) e h) ∙ rw (set-getD l i d)
 
 pub node-none : (e : List ℕ) (k : ℕ) → nodeText 0 e k ≡ []
 unfolding nodeText

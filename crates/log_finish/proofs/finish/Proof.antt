@@ -3,7 +3,6 @@ use mathlib.Core.List.{[]}
 use mathlib.Core.Path.{ap, refl, subst}
 use native.Mathlib.Omega.{arith}
 use Rattle.decimal.specs.Text.{put}
-use Rattle.forms.specs.Form.{line}
 use Rattle.log_first.specs.Open.{SoundStage, stageBy}
 use Rattle.log_rules.proofs.Cuts.{rest-over}
 use Rattle.log_rules.specs.Pieces.{heldOf}

@@ -4,7 +4,6 @@ use lib.ListN.{length, take}
 use mathlib.Core.List.{_++_}
 use mathlib.Core.Path.{_∙_, _≡_, refl}
 use native.Mathlib.Omega.{arith}
-use Rattle.forms.specs.Form.{line}
 use Rattle.log_lines.proofs.Parts.{count-more, hold-end, hold-more}
 use Rattle.log_lines.specs.Lines.{part}
 use Rattle.log_lines.proofs.hold.Statement.{statement}

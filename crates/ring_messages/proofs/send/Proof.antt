@@ -8,7 +8,7 @@ use Rattle.laws.proofs.Tests.{left-true, right-true}
 use Rattle.ring_rules.proofs.Answers.{accepted-answer, limit-answer, node-answer, rule-answer, self-answer}
 use Rattle.ring_rules.proofs.Start.{fits}
 use Rattle.ring_rules.specs.Rules.{Send}
-use Rattle.ring_rules.specs.Soundness.{sendLimit}
+use Rattle.refusal.specs.Table.{sendLimit}
 use Rattle.ring_messages.proofs.send.Statement.{statement}
 use Rattle.ring_messages.proofs.send.Tie as tie
 

@@ -2,7 +2,7 @@ use borrow.Author.Needs.{needs}
 use lib.ListN.{List·getD-eq-default}
 use mathlib.Core.Path.{_∙_, sym}
 use native.Mathlib.Omega.{arith}
-use Rattle.tree_check.proofs.Laws.{any-default}
+use Rattle.laws.proofs.Columns.{any-default}
 use Rattle.tree_check.proofs.engager_of.Statement.{statement}
 use Rattle.tree_check.proofs.engager_of.Tie as tie
 

@@ -3,7 +3,7 @@ use lib.ListN.{length}
 use mathlib.Core.Path.{_≡_}
 use native.Mathlib.Omega.{arith}
 use mathlib.Core.Path.{_∙_, sym}
-use Rattle.tree_text.proofs.Printed.{any-default}
+use Rattle.laws.proofs.Columns.{any-default}
 use Rattle.tree_text.proofs.Steps.{enter-large, enter-low, enter-again, enter-new}
 use borrow.Author.Needs.{needs}
 use Rattle.tree_reader.proofs.judge.Statement.{statement}

@@ -4,7 +4,7 @@ use mathlib.Core.Path.{ap}
 use mathlib.Core.Bool.{_&&_, not}
 use Prim.Native.Nat.{ℕ}
 use lib.Dec.{eqb}
-use Rattle.tree_text.proofs.Printed.{any-default}
+use Rattle.laws.proofs.Columns.{any-default}
 use borrow.Author.Needs.{needs}
 use Rattle.tree_writer.proofs.is_under.Statement.{statement}
 use Rattle.tree_writer.proofs.is_under.Tie as tie

@@ -4,7 +4,7 @@ use native.Mathlib.Omega.{arith}
 use borrow.Author.Tests.{eq-eqb, ne-eqb}
 use Rattle.decimal.proofs.Decimal.{decimal-width}
 use Rattle.tree_text.specs.Text.{share}
-use Rattle.tree_text.proofs.Printed.{any-default}
+use Rattle.laws.proofs.Columns.{any-default}
 use borrow.Author.Needs.{needs}
 use Rattle.tree_writer.proofs.share_of.Statement.{statement}
 use Rattle.tree_writer.proofs.share_of.Tie as tie
