@@ -21,7 +21,7 @@ use Rattle.forms.proofs.Lines.{form-line}
 use Rattle.forms.proofs.Steps.{ring-exact, ring-once, tree-once}
 use Rattle.first_line.specs.Start.{Start, bare, lists, tree, startForm}
 use Rattle.first_line.specs.Read.{startAt, firstAt}
-use Rattle.first_line.specs.Laws.{Grammar}
+use Rattle.first_line.specs.Theorems.{Grammar}
 use Rattle.first_line.proofs.Opens.{first-exact}
 
 -- the steps that only the tree has

@@ -2,4 +2,4 @@ pub mod Start
 pub mod Read
 pub mod Exact
 pub mod Meaning
-pub mod Laws
+pub mod Theorems

@@ -1,4 +1,4 @@
--- What holds of the forms of a log. Assumes nothing.
+-- What holds of the forms of a log.
 use mathlib.Core.Path.{_≡_}
 use mathlib.Core.List.{List, _++_}
 use Prim.Native.Nat.{ℕ}
