@@ -1,0 +1,101 @@
+-- That demand 3 speaks of something: a start and a state handed in that meet what `WholeRuns` (WholeRun) asks for, and quiet points of
+-- their runs, with K worked out there. Only statements are here; proofs/Instances.antt proves them.
+use Prim.Native.Nat.{_<_, ℕ}
+use lib.IntN.{pos}
+use lib.ListN.{replicate}
+use mathlib.Core.Bool.{false, true}
+use mathlib.Core.List.{List, [], _++_, _∷_}
+use mathlib.Core.Path.{_≡_}
+use Rattle.refusal.specs.declared.Verdict.the-variants.{Accepted}
+use Rattle.ring_rules.specs.Soundness.{Open}
+use Rattle.ring_rules.specs.Start.{startOf, startVerdict}
+use Rattle.ring_rules.specs.State.{State}
+use Rattle.runs.specs.Runs.{Accepts, Request, acceptedOf, runOf}
+use Rattle.ring_runs.specs.Agreement.{Reachable}
+use Rattle.ring_runs.specs.Counts.{Announced, QuietBy, Unannounced, ring}
+use Rattle.ring_runs.specs.EWD998.{Init, terminationDetected}
+use Rattle.ring_runs.specs.StarredRuns.{announce, idle, numbers, pass, probe, send, take}
+use Rattle.ring_runs.specs.View.{varsOf}
+use Rattle.ring_runs.specs.WholeRun.{Countdown}
+
+-- ---- the start of document 01's second starred run, and that run with three requests put in that are refused
+
+abbrev pub startFlags : List ℕ
+startFlags = 0 ∷ 1 ∷ 0 ∷ []
+
+abbrev pub first : State
+first = startOf 3 startFlags .state
+
+abbrev pub requests : List Request
+requests = announce ∷ probe ∷ pass 2 ∷ send 1 1 ∷ send 1 2 ∷ take 2 ∷ take 2 ∷ idle 1 ∷ idle 2 ∷ []
+
+abbrev pub answers : List ℕ
+answers = 8 ∷ 0 ∷ 0 ∷ 7 ∷ 0 ∷ 0 ∷ 8 ∷ 0 ∷ 0 ∷ []
+
+-- from there to the announcement
+abbrev pub moves : List Request
+moves = pass 1 ∷ probe ∷ pass 2 ∷ pass 1 ∷ probe ∷ pass 2 ∷ pass 1 ∷ []
+
+-- ---- a state handed in: one passive node, with one message sent and received
+
+-- 1 for node 0
+abbrev pub once : List ℕ
+once = 1 ∷ replicate 95 0
+
+abbrev pub handed : State
+handed =
+    record {
+      n = 1;
+      active = replicate 96 false;
+      color = replicate 12 0;
+      sent = once;
+      received = once;
+      pending = replicate 96 0;
+      pos = 0;
+      q = pos 0;
+      black = true;
+      closed = false;
+    }
+
+-- no list of requests leads to s from any accepted start: of `handed` this is so because one node alone has nobody to send to
+abbrev pub Unreached : State → Type 0
+Unreached s =
+    (n : ℕ) (flags : List ℕ) → startVerdict n flags ≡ Accepted → (xs : List Request) → runOf ring (startOf n flags .state) xs ≡ s → ⊥
+
+-- ---- what is shown
+
+-- the point after xs is quiet and not yet announced
+pub record QuietPoint (r : State) (xs : List Request) : Type 0 where
+  pub quiet : QuietBy r xs
+  pub unannounced : Unannounced r xs
+
+-- From that point the token moves ys are accepted, each of them, and after them the announcement, which ends the run. There is a
+-- countdown there, and every one has this K.
+pub record Worked (r : State) (xs ys : List Request) (K : ℕ) : Type 0 where
+  pub accepted : acceptedOf ring (runOf ring r xs) ys ≡ ys
+  pub unannounced : Unannounced (runOf ring r xs) ys
+  pub announces : Accepts ring (runOf ring (runOf ring r xs) ys) announce
+  pub announced : Announced r (xs ++ (ys ++ announce ∷ []))
+  pub countdown : Countdown r xs
+  pub only : (c : Countdown r xs) → c .K ≡ K
+
+-- The agreement with EWD998 speaks of something too: of an initial state, of a state reached by a SendMsg, of termination detected. Its
+-- claim about sound states is met by the start below.
+pub record Agreed : Type 0 where
+  pub some-node : 0 < 3
+  pub init : Init some-node (varsOf 3 first)
+  pub reachable : Reachable some-node (varsOf 3 (runOf ring first requests)) 1
+  pub detected : terminationDetected some-node (varsOf 3 (runOf ring first (requests ++ moves)))
+
+pub record Instances : Type 0 where
+  -- the start is accepted, and its state is sound and not yet announced
+  pub start : (startVerdict 3 startFlags ≡ Accepted) × Open first
+  -- the state handed in is sound and not yet announced too, and no run from a start gives it
+  pub handed-in : Open handed × Unreached handed
+  -- the run from the start, with its refused requests, leads to a quiet point; seven moves are left there
+  pub quiet-point : (numbers first requests ≡ answers) × QuietPoint first requests
+  pub worked : Worked first requests moves 7
+  -- the state handed in is quiet; one move is left there
+  pub handed-point : QuietPoint handed []
+  pub handed-worked : Worked handed [] (probe ∷ []) 1
+  pub agreed : Agreed
