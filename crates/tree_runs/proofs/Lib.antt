@@ -9,3 +9,4 @@ pub mod Agreed
 pub mod Behaviours
 pub mod Agreement
 pub mod StarredRuns
+pub mod Instances

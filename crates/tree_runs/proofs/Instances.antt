@@ -1,0 +1,127 @@
+-- The statements of specs/Instances.antt, proved: the runs by computation, and by an invariant that one node alone never sends.
+-- Assumes nothing.
+use Prim.Native.Nat.{ℕ}
+use borrow.Author.Tests.{eqb-true, not-true}
+use lib.Dec.{eqb}
+use lib.ListN.{length}
+use mathlib.Core.Bool.{Bool, false, not, true}
+use mathlib.Core.List.{List, [], _++_, _∷_}
+use mathlib.Core.Path.{_∙_, _≡_, ap, refl, subst, sym}
+use native.Mathlib.Omega.{arith}
+use Rattle.laws.proofs.Places.{all-at}
+use Rattle.laws.specs.Places.{allTo, countTo}
+use Rattle.laws.specs.Sums.{sumTo}
+use Rattle.runs.proofs.Runs.{run-keeps, run-of}
+use Rattle.runs.specs.Runs.{Accepts, Request, acceptedOf, runOf}
+use Rattle.tree_rules.proofs.Accepted.{Rule, acknowledges, announces, idles, leaves, sends, takes}
+use Rattle.tree_rules.proofs.Facts.{take-cases}
+use Rattle.tree_rules.proofs.Theorems.{sound-kept, sound-tested, start-answered}
+use Rattle.tree_rules.specs.Answers.{verdictOf}
+use Rattle.tree_rules.specs.Rules.{Ack, Announce, Idle, Kind, Leave, Send, Take, conclusive, effect, mayLeave}
+use Rattle.tree_rules.specs.Soundness.{Open, balanceTest, chainTest, closedTest, engagerTest, limitTest, pairTest, placeTest, rangeTest, restTest, shapeTest, soundTest}
+use Rattle.tree_rules.specs.Start.{blank, firstState, startOf, startVerdict}
+use Rattle.tree_rules.specs.State.{State, children, climb, messagesFrom}
+use Rattle.tree_rules.specs.Termination.{acksTotal, engagedOthers}
+use Rattle.tree_runs.proofs.Agreement.{tree-agrees}
+use Rattle.tree_runs.proofs.Change.{engaged-null}
+use Rattle.tree_runs.proofs.Traced.{may}
+use Rattle.tree_runs.proofs.WholeRun.{whole-runs}
+use Rattle.tree_runs.specs.Counts.{Announced, Unannounced, activeBy, kind, transitBy, tree}
+use Rattle.tree_runs.specs.DijkstraScholten.{Addr}
+use Rattle.tree_runs.specs.Instances.{Instances, QuietPoint, Unreached, Worked, first, handed, requests, steps}
+use Rattle.tree_runs.specs.StarredRuns.{announce, numbers}
+use Rattle.tree_runs.specs.WholeRun.{stepsBy}
+
+-- ---- one node alone never sends
+
+abbrev NoneSent : State → Type 0
+NoneSent t = t .n ≡ 1 → t .sends ≡ 0
+
+none-sent : (t : State) (x : Request) → NoneSent t → Accepts tree t x → NoneSent (tree .effect t x)
+none-sent t x p a = go (kind x) (x .i) (x .j) (may t x a .by)
+  where
+    go : (k : Kind) (i j : ℕ) → Rule t i j k → NoneSent (effect t k i j)
+    go Send i j (sends hi hj ne act lim) = λ e. absurd (ne (omega arith))
+    go Take i j (takes hi hj m) = take-cases NoneSent t i j (λ _. p) (λ _. p)
+    go Idle i j (idles hi act) = p
+    go Ack i j (acknowledges hi h) = p
+    go Leave i j (leaves hi l) = p
+    go Announce i j (announces c) = p
+
+first-none : (n root : ℕ) → NoneSent (firstState n root)
+unfolding firstState
+first-none n root e = refl
+
+handed-unreached : Unreached handed
+handed-unreached n root e xs p =
+    let s =
+    run-keeps tree NoneSent none-sent
+    (run-of tree (startOf n root .state) xs)
+    (subst NoneSent (sym (start-answered .first n root e)) (first-none n root)) in
+    let h : handed .sends ≡ 0 = subst NoneSent p s refl in
+    omega arith
+
+-- ---- from what is computed
+
+open-tested : (t : State) → soundTest t ≡ true → t .closed ≡ false → Open t
+open-tested t e c = record { sound = sound-tested .holds t e; running = c }
+
+module _ (t : State) (xs : List Request) where
+  abbrev passiveAt : ℕ → Bool
+  passiveAt b = not (activeBy t xs b)
+
+  abbrev emptyAt : ℕ → ℕ → Bool
+  emptyAt b c = eqb (transitBy t xs b c) 0
+
+  quiet-point :
+      allTo (t .n) passiveAt ≡ true → allTo (t .n) (λ b. allTo (t .n) (emptyAt b)) ≡ true → Unannounced t xs → QuietPoint t xs
+  quiet-point p e u =
+      record {
+        quiet =
+            record {
+              passive = λ b h. not-true _ (all-at (t .n) passiveAt p b h);
+              empty = λ b c hb hc. eqb-true _ _ (all-at (t .n) (emptyAt b) (all-at (t .n) (λ b. allTo (t .n) (emptyAt b)) e b hb) c hc);
+            };
+        unannounced = u;
+      }
+
+  -- the announcement is accepted after ys, so that K is their number
+  worked :
+      (ys : List Request) (K : ℕ) → Open t → QuietPoint t xs
+      → acceptedOf tree (runOf tree t xs) ys ≡ ys → Unannounced (runOf tree t xs) ys
+      → Accepts tree (runOf tree (runOf tree t xs) ys) announce → Announced t (xs ++ (ys ++ announce ∷ []))
+      → length ys ≡ K → stepsBy t xs ≡ K → Worked t xs ys K
+  worked ys K o q m u a l k s =
+      record {
+        accepted = m;
+        unannounced = u;
+        announces = a;
+        announced = l;
+        sum = s;
+        countdown = rw (← s) (whole-runs .point t o xs .countdown (q .quiet) (q .unannounced));
+        only = λ i c. sym (c ys u .exactly announce refl .0 a) ∙ ap length m ∙ k;
+      }
+
+pub instances : Instances
+unfolding numbers runOf acceptedOf sumTo countTo messagesFrom children climb mayLeave conclusive shapeTest rangeTest engagerTest chainTest balanceTest restTest pairTest placeTest limitTest closedTest soundTest verdictOf firstState blank startVerdict startOf acksTotal engagedOthers
+instances =
+    let first-open : Open first = sound-kept .start 3 0 refl in
+    let first-quiet : QuietPoint first requests = quiet-point first requests refl refl refl in
+    let handed-open : Open handed = open-tested handed refl refl in
+    let handed-quiet : QuietPoint handed [] = quiet-point handed [] refl refl refl in
+    let root : Addr 3 = record { nr = 0; below = omega arith } in
+    record {
+      start = (refl, first-open);
+      handed-in = (handed-open, handed-unreached);
+      quiet-point = (refl, first-quiet);
+      worked = worked first requests steps _ first-open first-quiet refl refl refl refl refl refl;
+      handed-point = handed-quiet;
+      handed-worked = worked handed [] [] _ handed-open handed-quiet refl refl refl refl refl refl;
+      agreed =
+          record {
+            a0 = root;
+            initial = tree-agrees .starts 3 .start-is-initial root (omega arith) .1;
+            reachable = tree-agrees .runs 3 root .run-is-reachable (omega arith) requests;
+            detected = record { passive = refl; settled = refl; engaged = engaged-null 0 (λ z. omega arith) };
+          };
+    }

@@ -1,0 +1,96 @@
+-- That demand 3 speaks of something: a start and a state handed in that meet what `WholeRuns` (WholeRun) asks for, and quiet points of
+-- their runs, with K worked out there. Only statements are here; proofs/Instances.antt proves them.
+use Prim.Native.Nat.{ℕ}
+use lib.ListN.{replicate}
+use mathlib.Core.Bool.{false}
+use mathlib.Core.List.{List, [], _++_, _∷_}
+use mathlib.Core.Path.{_≡_}
+use Rattle.refusal.specs.declared.Verdict.the-variants.{Accepted}
+use Rattle.runs.specs.Runs.{Accepts, Request, acceptedOf, runOf}
+use Rattle.tree_rules.specs.Soundness.{Open}
+use Rattle.tree_rules.specs.Start.{startOf, startVerdict}
+use Rattle.tree_rules.specs.State.{State}
+use Rattle.tree_runs.specs.Agreement.{Reachable}
+use Rattle.tree_runs.specs.Counts.{Announced, QuietBy, Unannounced, tree}
+use Rattle.tree_runs.specs.DijkstraScholten.{Addr, Initial, SignalTermination}
+use Rattle.tree_runs.specs.StarredRuns.{ack, announce, idle, leave, numbers, send, take}
+use Rattle.tree_runs.specs.View.{systemsOf}
+use Rattle.tree_runs.specs.WholeRun.{Counted, stepsBy}
+
+-- ---- the start of document 01's starred run, and that run with three requests put in that are refused
+
+abbrev pub first : State
+first = startOf 3 0 .state
+
+abbrev pub requests : List Request
+requests = announce ∷ send 0 1 ∷ send 0 3 ∷ take 1 0 ∷ take 1 0 ∷ idle 0 ∷ idle 1 ∷ []
+
+abbrev pub answers : List ℕ
+answers = 8 ∷ 0 ∷ 6 ∷ 0 ∷ 8 ∷ 0 ∷ 0 ∷ []
+
+-- from there to the announcement
+abbrev pub steps : List Request
+steps = leave 1 ∷ ack 0 ∷ []
+
+-- ---- a state handed in: one passive node, with one message sent and acknowledged
+
+abbrev pub handed : State
+handed =
+    record {
+      n = 1;
+      root = 0;
+      active = replicate 16 false;
+      engager = 0 ∷ replicate 15 16;
+      unacked = replicate 16 0;
+      transit = replicate 256 0;
+      acks = replicate 16 0;
+      sends = 1;
+      closed = false;
+    }
+
+-- no list of requests leads to s from any accepted start: of `handed` this is so because one node alone has nobody to send to
+abbrev pub Unreached : State → Type 0
+Unreached s = (n root : ℕ) → startVerdict n root ≡ Accepted → (xs : List Request) → runOf tree (startOf n root .state) xs ≡ s → ⊥
+
+-- ---- what is shown
+
+-- the point after xs is quiet and not yet announced
+pub record QuietPoint (t : State) (xs : List Request) : Type 0 where
+  pub quiet : QuietBy t xs
+  pub unannounced : Unannounced t xs
+
+-- K counts down to the announcement from the point after xs
+abbrev pub Countdown : State → List Request → ℕ → Type 0
+Countdown t xs K = (ys : List Request) → Unannounced (runOf tree t xs) ys → Counted (runOf tree t xs) K ys
+
+-- From that point the requests ys are accepted, each of them, and after them the announcement, which ends the run. A + 2E is K there;
+-- it counts down, and no other number does.
+pub record Worked (t : State) (xs ys : List Request) (K : ℕ) : Type 0 where
+  pub accepted : acceptedOf tree (runOf tree t xs) ys ≡ ys
+  pub unannounced : Unannounced (runOf tree t xs) ys
+  pub announces : Accepts tree (runOf tree (runOf tree t xs) ys) announce
+  pub announced : Announced t (xs ++ (ys ++ announce ∷ []))
+  pub sum : stepsBy t xs ≡ K
+  pub countdown : Countdown t xs K
+  pub only : (m : ℕ) → Countdown t xs m → m ≡ K
+
+-- The agreement with document 003 speaks of something too: of initial systems, of systems reached by a message sent, of termination
+-- signalled. Its claim about sound states is met by the start below.
+pub record Agreed : Type 0 where
+  pub a0 : Addr 3
+  pub initial : Initial a0 (systemsOf 3 first)
+  pub reachable : Reachable a0 (systemsOf 3 (runOf tree first requests)) 1
+  pub detected : SignalTermination a0 (systemsOf 3 (runOf tree first (requests ++ steps)))
+
+pub record Instances : Type 0 where
+  -- the start is accepted, and its state is sound and not yet announced
+  pub start : (startVerdict 3 0 ≡ Accepted) × Open first
+  -- the state handed in is sound and not yet announced too, and no run from a start gives it
+  pub handed-in : Open handed × Unreached handed
+  -- the run from the start, with its refused requests, leads to a quiet point; two steps are left there
+  pub quiet-point : (numbers first requests ≡ answers) × QuietPoint first requests
+  pub worked : Worked first requests steps 2
+  -- the state handed in is quiet; no step is left there
+  pub handed-point : QuietPoint handed []
+  pub handed-worked : Worked handed [] [] 0
+  pub agreed : Agreed
