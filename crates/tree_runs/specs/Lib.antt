@@ -4,4 +4,3 @@ pub mod DijkstraScholten
 pub mod View
 pub mod Agreement
 pub mod StarredRuns
-pub mod Instances

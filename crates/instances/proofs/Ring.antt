@@ -1,4 +1,4 @@
--- The statements of specs/Instances.antt, proved: the runs by computation, and by an invariant that one node alone never sends.
+-- The statements of specs/Ring.antt, proved: the runs by computation, and by an invariant that one node alone never sends.
 -- Assumes nothing.
 use Prim.Native.Nat.{ℕ, _<_}
 use borrow.Author.Tests.{eqb-true, not-true}
@@ -22,12 +22,12 @@ use Rattle.ring_rules.specs.State.{State, sentAt}
 use Rattle.runs.proofs.Runs.{run-keeps, run-of}
 use Rattle.runs.specs.Runs.{Accepts, Request, acceptedOf, runOf}
 use Rattle.signed.specs.Integers.{_⊖_, isPositive, isSame, isZero}
 use Rattle.ring_runs.proofs.Agreement.{runs-agree, starts-agree}
 use Rattle.ring_runs.proofs.Trace.{may}
 use Rattle.ring_runs.proofs.WholeRun.{whole-runs}
 use Rattle.ring_runs.specs.Counts.{Announced, Unannounced, activeBy, kind, ring, transitBy}
-use Rattle.ring_runs.specs.Instances.{Instances, QuietPoint, Unreached, Worked, first, handed, moves, requests, startFlags}
+use Rattle.instances.specs.Ring.{Instances, QuietPoint, Unreached, Worked, first, handed, moves, requests, startFlags}
 use Rattle.ring_runs.specs.StarredRuns.{announce, numbers, probe}
 
 -- ---- one node alone never sends
 

@@ -1,4 +1,4 @@
--- The statements of specs/Instances.antt, proved: the runs by computation, and by an invariant that one node alone never sends.
+-- The statements of specs/Tree.antt, proved: the runs by computation, and by an invariant that one node alone never sends.
 -- Assumes nothing.
 use Prim.Native.Nat.{ℕ}
 use borrow.Author.Tests.{eqb-true, not-true}
@@ -22,15 +22,15 @@ use Rattle.tree_rules.specs.Soundness.{Open, balanceTest, chainTest, closedTest
 use Rattle.tree_rules.specs.Start.{blank, firstState, startOf, startVerdict}
 use Rattle.tree_rules.specs.State.{State, children, climb, messagesFrom}
 use Rattle.tree_rules.specs.Termination.{acksTotal, engagedOthers}
 use Rattle.tree_runs.proofs.Agreement.{tree-agrees}
 use Rattle.tree_runs.proofs.Change.{engaged-null}
 use Rattle.tree_runs.proofs.Traced.{may}
 use Rattle.tree_runs.proofs.WholeRun.{whole-runs}
 use Rattle.tree_runs.specs.Counts.{Announced, Unannounced, activeBy, kind, transitBy, tree}
 use Rattle.tree_runs.specs.DijkstraScholten.{Addr}
-use Rattle.tree_runs.specs.Instances.{Instances, QuietPoint, Unreached, Worked, first, handed, requests, steps}
+use Rattle.instances.specs.Tree.{Instances, QuietPoint, Unreached, Worked, first, handed, requests, steps}
 use Rattle.tree_runs.specs.StarredRuns.{announce, numbers}
 use Rattle.tree_runs.specs.WholeRun.{stepsBy}
 
 -- ---- one node alone never sends
 

@@ -1,5 +1,5 @@
--- That demand 3 speaks of something: a start and a state handed in that meet what `WholeRuns` (WholeRun) asks for, and quiet points of
--- their runs, with K worked out there. Only statements are here; proofs/Instances.antt proves them.
+-- That demand 3 speaks of something: a start and a state handed in that meet what `WholeRuns` (tree_runs) asks for, and quiet points of
+-- their runs, with K worked out there. Only statements are here; proofs/Tree.antt proves them.
 use Prim.Native.Nat.{ℕ}
 use lib.ListN.{replicate}
 use mathlib.Core.Bool.{false}
