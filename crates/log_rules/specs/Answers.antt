@@ -121,26 +121,34 @@ isMove ringStep.Probe = true
 isMove (ringStep.Pass i) = true
 isMove ringStep.Announce = false
 
--- line k of a ring's run: "words of the other watch, and a second start, are 10"
-abbrev pub ringTold : ring.State → ℕ → ℕ → RingLine → Told
-ringTold r m k (ringLine.Step f e) =
+-- a step of a ring's run, asked for in line k
+abbrev pub ringStepTold : ring.State → ℕ → ℕ → RingStep → Told
+ringStepTold r m k f =
     let x = ringRequest f in
     let a = ringAnswers.stepOf r (x .kind) (x .i) (x .j) in
     record {
       stage = onRing (a .state) (m + cond (isMove f && isAccepted (a .verdict)) 1 0);
       text = answerText k (a .verdict);
     }
+
+-- and of a tree's
+abbrev pub treeStepTold : tree.State → ℕ → TreeStep → Told
+treeStepTold t k f =
+    let x = treeRequest f in
+    let a = treeAnswers.stepOf t (x .kind) (x .i) (x .j) in
+    record { stage = onTree (a .state); text = answerText k (a .verdict) }
+
+-- line k of a ring's run: "words of the other watch, and a second start, are 10"
+abbrev pub ringTold : ring.State → ℕ → ℕ → RingLine → Told
+ringTold r m k (ringLine.Step f e) = ringStepTold r m k f
 ringTold r m k ringLine.NotAForm = record { stage = onRing r m; text = answerText k (Refused NotAForm) }
 
 -- line k of a tree's run
 abbrev pub treeTold : tree.State → ℕ → TreeLine → Told
-treeTold t k (treeLine.Step f e) =
-    let x = treeRequest f in
-    let a = treeAnswers.stepOf t (x .kind) (x .i) (x .j) in
-    record { stage = onTree (a .state); text = answerText k (a .verdict) }
+treeTold t k (treeLine.Step f e) = treeStepTold t k f
 treeTold t k treeLine.NotAForm = record { stage = onTree t; text = answerText k (Refused NotAForm) }
 
--- line k of a log. What the recognisers answer of a line is what the line says (crates forms and first_line).
+-- line k of a log. What the recognisers answer of a line is what the line says (`LinesSay`, Theorems.antt).
 unfoldable pub lineTold : Stage → ℕ → List ℕ → Told
 lineTold fresh k l = firstTold (seenOf (firstAt l 0) .kind) (seenOf (firstAt l 0))
 lineTold (onRing r m) k l = ringTold r m k (ringAt l 0)

@@ -3,3 +3,4 @@ pub mod Answers
 pub mod Output
 pub mod Pieces
 pub mod Examples
+pub mod Theorems

@@ -1,0 +1,67 @@
+-- The statements of specs/Theorems.antt, proved. Assumes nothing.
+use Prim.Native.Nat.{_+_, ℕ}
+use borrow.Author.Tests.{eqb-false, eqb-true}
+use lib.Dec.{eqb}
+use lib.ListN.{length}
+use mathlib.Core.Bool.{Bool, cond, false, true}
+use mathlib.Core.List.{List, [], _++_, _∷_, append-assoc, append-nil}
+use mathlib.Core.Path.{_∙_, _≡_, ap, refl, subst, sym}
+use native.Mathlib.Omega.{arith}
+use Rattle.first_line.proofs.Opens.{first-exact, first-other}
+use Rattle.first_line.specs.Start.{Start, seen, startForm}
+use Rattle.forms.proofs.Steps.{ring-exact, ring-not, tree-exact, tree-not}
+use Rattle.forms.specs.Form.{Form, Says, formText, line, ringForm, treeForm}
+use Rattle.log_rules.proofs.Cuts.{long-told, unended-told}
+use Rattle.log_rules.proofs.Ends.{ended-append, ended-itself, form-ended, unended-append}
+use Rattle.log_rules.specs.Answers.{firstTold, lineTold}
+use Rattle.log_rules.specs.Lines.{split}
+use Rattle.log_rules.specs.Pieces.{OneLine, PartLine, empty, newline}
+use Rattle.log_rules.specs.Theorems.{LinesCut, LinesOf, LinesSay}
+use Rattle.log_rules.specs.Pieces as pieces
+use Rattle.log_rules.specs.Theorems as lines
+
+-- a line that says a form is one line, and so is its first line
+says-first : (f : Form) (l : List ℕ) → Says l f → Says (line l) f
+says-first f l s = (ap line (s .0) ∙ ended-itself (form-ended f), s .1)
+
+says-itself : (f : Form) (l : List ℕ) → OneLine l → Says (line l) f → Says l f
+says-itself f l o s = (sym (ended-itself o) ∙ s .0, s .1)
+
+seen-told : (f : Start) (e : ℕ) → firstTold (seen f e .kind) (seen f e) ≡ firstTold (seen f 0 .kind) (seen f 0)
+seen-told (Start.bare n) e = refl
+seen-told (Start.lists n active black) e = refl
+seen-told (Start.tree n root) e = refl
+
+pub lines-say : LinesSay
+unfolding lineTold
+lines-say = record {
+  first = λ k l f s. rw (first-exact l 0 f (0 + length (formText (startForm f))) .1 (says-first (startForm f) l s, refl)) (seen-told f _);
+  first-other = λ k l o h. rw (first-other l 0 .1 (λ f s. h f (says-itself (startForm f) l o s)));
+  ring-step = λ r m k l f s. rw (ring-exact l 0 f (0 + length (formText (ringForm f))) .1 (says-first (ringForm f) l s, refl));
+  ring-other = λ r m k l o h. rw (ring-not l 0 .1 (λ f s. h f (says-itself (ringForm f) l o s)));
+  tree-step = λ t k l f s. rw (tree-exact l 0 f (0 + length (formText (treeForm f))) .1 (says-first (treeForm f) l s, refl));
+  tree-other = λ t k l o h. rw (tree-not l 0 .1 (λ f s. h f (says-itself (treeForm f) l o s)));
+  too-long = λ s k l o h. long-told s k l (ended-itself o) h;
+  unended = λ s k l u. unended-told s k u;
+  after = λ k l. refl;
+}
+
+split-lines : (held s : List ℕ) → PartLine held → LinesOf (held ++ s) (split held s)
+unfolding split
+split-lines [] [] u = lines.no-line
+split-lines (b ∷ held) [] u = subst (λ (l : List ℕ). LinesOf l ((b ∷ held) ∷ [])) (sym (append-nil (b ∷ held))) (lines.last u (omega arith))
+split-lines held (b ∷ s) u =
+    let h = held ++ (b ∷ []) in
+    subst (λ (l : List ℕ). LinesOf l (split held (b ∷ s))) (append-assoc held (b ∷ []) s)
+    (go (eqb b 10) refl (split-lines [] s empty) (split-lines h s))
+  where
+    go :
+        (t : Bool) → eqb b 10 ≡ t → LinesOf s (split [] s)
+        → (PartLine (held ++ (b ∷ [])) → LinesOf ((held ++ (b ∷ [])) ++ s) (split (held ++ (b ∷ [])) s))
+        → LinesOf ((held ++ (b ∷ [])) ++ s) (cond t ((held ++ (b ∷ [])) ∷ split [] s) (split (held ++ (b ∷ [])) s))
+    go true e rest more =
+        lines.another (ended-append u (subst (λ (x : ℕ). OneLine (x ∷ [])) (sym (eqb-true b 10 e)) newline)) rest
+    go false e rest more = more (unended-append u (pieces.another (eqb-false b 10 e) empty))
+
+pub lines-cut : LinesCut
+lines-cut = record { lines = λ s. split-lines [] s empty }

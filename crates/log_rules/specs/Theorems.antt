@@ -1,0 +1,45 @@
+-- What is proved of the output of a log; the proofs are in proofs/Theorems.antt. With these laws a reader has to believe the printer of the
+-- forms (crate forms, Form.antt) and not their recognisers.
+use Prim.Native.Nat.{_<_, ℕ}
+use lib.ListN.{length}
+use mathlib.Core.List.{List, [], _++_, _∷_}
+use mathlib.Core.Path.{_≡_}
+use Rattle.first_line.specs.Start.{Start, seen, startForm}
+use Rattle.forms.specs.Form.{Says, ringForm, treeForm}
+use Rattle.forms.specs.declared.RingStep.{RingStep}
+use Rattle.forms.specs.declared.TreeStep.{TreeStep}
+use Rattle.log_rules.specs.Answers.{Stage, firstTold, fresh, lineTold, onRing, onTree, over, ringStepTold, treeStepTold}
+use Rattle.log_rules.specs.Lines.{split}
+use Rattle.log_rules.specs.Pieces.{OneLine, PartLine, lineBytes, notTold}
+use Rattle.ring_rules.specs.State as ring
+use Rattle.tree_rules.specs.State as tree
+
+-- Demand 1 for a line of a log: one that says a form is carried out as what it says; every other line is refused with 10, and changes
+-- nothing.
+pub record LinesSay : Type 0 where
+  pub first : (k : ℕ) (l : List ℕ) (f : Start) → Says l (startForm f) → lineTold fresh k l ≡ firstTold (seen f 0 .kind) (seen f 0)
+  pub first-other : (k : ℕ) (l : List ℕ) → OneLine l → ((f : Start) → Says l (startForm f) → ⊥) → lineTold fresh k l ≡ notTold fresh k
+  pub ring-step :
+      (r : ring.State) (m k : ℕ) (l : List ℕ) (f : RingStep) → Says l (ringForm f) → lineTold (onRing r m) k l ≡ ringStepTold r m k f
+  pub ring-other :
+      (r : ring.State) (m k : ℕ) (l : List ℕ) → OneLine l → ((f : RingStep) → Says l (ringForm f) → ⊥)
+      → lineTold (onRing r m) k l ≡ notTold (onRing r m) k
+  pub tree-step :
+      (t : tree.State) (k : ℕ) (l : List ℕ) (f : TreeStep) → Says l (treeForm f) → lineTold (onTree t) k l ≡ treeStepTold t k f
+  pub tree-other :
+      (t : tree.State) (k : ℕ) (l : List ℕ) → OneLine l → ((f : TreeStep) → Says l (treeForm f) → ⊥)
+      → lineTold (onTree t) k l ≡ notTold (onTree t) k
+  -- "A line that is too long or lacks its byte 10 is one line, refused with 10."
+  pub too-long : (s : Stage) (k : ℕ) (l : List ℕ) → OneLine l → lineBytes < length l → lineTold s k l ≡ notTold s k
+  pub unended : (s : Stage) (k : ℕ) (l : List ℕ) → PartLine l → lineTold s k l ≡ notTold s k
+  -- "After a bad or missing first line the program prints only that refusal."
+  pub after : (k : ℕ) (l : List ℕ) → lineTold over k l ≡ record { stage = over; text = [] }
+
+-- the lines of a text: it is cut after each byte 10, and what is left is a line too
+pub data LinesOf : List ℕ → List (List ℕ) → Type 0 where
+  no-line : LinesOf [] []
+  last : {l : List ℕ} → PartLine l → 0 < length l → LinesOf l (l ∷ [])
+  another : {l s : List ℕ} {ls : List (List ℕ)} → OneLine l → LinesOf s ls → LinesOf (l ++ s) (l ∷ ls)
+
+pub record LinesCut : Type 0 where
+  pub lines : (s : List ℕ) → LinesOf s (split [] s)
