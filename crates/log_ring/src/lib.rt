@@ -1,7 +1,6 @@
 // The lines of a ring's run: each is recognised where it begins, carried out on lent columns, and answered.
 use forms::RingLine;
 use forms::RingStep;
-use forms::ring_step;
 use log_lines::line_end;
 use log_text::put_answer;
 use refusal::Refusal;
@@ -10,6 +9,7 @@ use ring::Ring;
 use ring::gathered;
 use ring::rest_of;
 use ring_check::Rest;
+use ring_forms::ring_step;
 ghost use mathlib.Core.Path.{_≡_};
 ghost use mathlib.Core.Bool.{cond, _&&_};
 ghost use Prim.Native.Nat.{_+_, _≤_, _<_};

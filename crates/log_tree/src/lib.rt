@@ -1,7 +1,6 @@
 // The lines of a tree's run: each is recognised where it begins, carried out on lent columns, and answered.
 use forms::TreeLine;
 use forms::TreeStep;
-use forms::tree_step;
 use log_lines::line_end;
 use log_text::put_answer;
 use refusal::Refusal;
@@ -10,6 +9,7 @@ use tree::Tree;
 use tree::gathered;
 use tree::rest_of;
 use tree_check::Rest;
+use tree_forms::tree_step;
 ghost use mathlib.Core.Path.{_≡_};
 ghost use Prim.Native.Nat.{_+_, _≤_, _<_};
 ghost use lib.ListN.{length};

@@ -10,7 +10,7 @@ use Rattle.log_ring.proofs.turn.Statement.{statement}
 use Rattle.log_ring.proofs.turn.Tie as tie
 use Rattle.log_ring.proofs.turn.Reads as reads
 use Rattle.log_ring.proofs.turn.Lts as lts
-use Rattle.forms.proofs.ring_step.Reads as ring-step-reads
+use Rattle.ring_forms.proofs.ring_step.Reads as ring-step-reads
 use Rattle.log_lines.proofs.line_end.Reads as line-end-reads
 use Rattle.log_ring.proofs.formless_line.Reads as formless-line-reads
 use Rattle.log_ring.proofs.step_line.Reads as step-line-reads

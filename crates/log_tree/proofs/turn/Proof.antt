@@ -10,7 +10,7 @@ use Rattle.log_tree.proofs.turn.Statement.{statement}
 use Rattle.log_tree.proofs.turn.Tie as tie
 use Rattle.log_tree.proofs.turn.Reads as reads
 use Rattle.log_tree.proofs.turn.Lts as lts
-use Rattle.forms.proofs.tree_step.Reads as tree-step-reads
+use Rattle.tree_forms.proofs.tree_step.Reads as tree-step-reads
 use Rattle.log_lines.proofs.line_end.Reads as line-end-reads
 use Rattle.log_tree.proofs.formless_line.Reads as formless-line-reads
 use Rattle.log_tree.proofs.step_line.Reads as step-line-reads

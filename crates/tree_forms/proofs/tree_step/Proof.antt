@@ -1,14 +1,14 @@
--- `forms::tree_step` meets its contract. Assumes nothing.
+-- `tree_forms::tree_step` meets its contract. Assumes nothing.
 use native.Mathlib.Omega.{arith}
 use mathlib.Core.Path.{sym, ap, _∙_}
 use Rattle.decimal.specs.Bytes.{bytes}
 use Rattle.decimal.proofs.Words.{word-in}
 use Rattle.forms.specs.declared.Args.{Args}
 use Rattle.forms.specs.Read.{madeOf, treeKind, treeLineOf, readBy, treeAt}
 use Rattle.forms.proofs.Steps.{tree-told}
 use borrow.Author.Needs.{needs}
-use Rattle.forms.proofs.tree_step.Statement.{statement}
-use Rattle.forms.proofs.tree_step.Tie as tie
+use Rattle.tree_forms.proofs.tree_step.Statement.{statement}
+use Rattle.tree_forms.proofs.tree_step.Tie as tie
 
 slice-aggregate-has : tie.Need-slice-aggregate-has
 slice-aggregate-has c = search needs

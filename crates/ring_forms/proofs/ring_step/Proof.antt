@@ -1,14 +1,14 @@
--- `forms::ring_step` meets its contract. Assumes nothing.
+-- `ring_forms::ring_step` meets its contract. Assumes nothing.
 use native.Mathlib.Omega.{arith}
 use mathlib.Core.Path.{sym, ap, _∙_}
 use Rattle.decimal.specs.Bytes.{bytes}
 use Rattle.decimal.proofs.Words.{word-in}
 use Rattle.forms.specs.declared.Args.{Args}
 use Rattle.forms.specs.Read.{madeOf, ringKind, ringLineOf, readBy, ringAt}
 use Rattle.forms.proofs.Steps.{ring-told}
 use borrow.Author.Needs.{needs}
-use Rattle.forms.proofs.ring_step.Statement.{statement}
-use Rattle.forms.proofs.ring_step.Tie as tie
+use Rattle.ring_forms.proofs.ring_step.Statement.{statement}
+use Rattle.ring_forms.proofs.ring_step.Tie as tie
 
 slice-aggregate-has : tie.Need-slice-aggregate-has
 slice-aggregate-has c = search needs

@@ -1,7 +1,7 @@
--- `forms::ring_kind` meets its contract. Assumes nothing.
+-- `tree_forms::tree_kind` meets its contract. Assumes nothing.
 use borrow.Author.Tests.{ne-eqb}
-use Rattle.forms.proofs.ring_kind.Statement.{statement}
-use Rattle.forms.proofs.ring_kind.Tie as tie
+use Rattle.tree_forms.proofs.tree_kind.Statement.{statement}
+use Rattle.tree_forms.proofs.tree_kind.Tie as tie
 
 returns : tie.Need-returns
 returns c = rw (c .match .keys1)
@@ -23,5 +23,5 @@ returns-6 c =
     let r = c .match .rest in
     rw (ne-eqb _ 1 (r .0 .0 .0 .0 .1), ne-eqb _ 2 (r .0 .0 .0 .1), ne-eqb _ 3 (r .0 .0 .1), ne-eqb _ 4 (r .0 .1), ne-eqb _ 5 (r .1))
 
-pub ring-kind-spec : {M : Type 1} → statement M
-ring-kind-spec = tie.close (tie.spec returns returns-2 returns-3 returns-4 returns-5 returns-6)
+pub tree-kind-spec : {M : Type 1} → statement M
+tree-kind-spec = tie.close (tie.spec returns returns-2 returns-3 returns-4 returns-5 returns-6)

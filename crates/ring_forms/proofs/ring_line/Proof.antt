@@ -1,9 +1,9 @@
--- `forms::ring_line` meets its contract. Assumes nothing.
+-- `ring_forms::ring_line` meets its contract. Assumes nothing.
 use Rattle.forms.proofs.Steps.{ring-made}
 use Rattle.forms.specs.Read.{madeOf}
 use borrow.Author.Needs.{needs}
-use Rattle.forms.proofs.ring_line.Statement.{statement}
-use Rattle.forms.proofs.ring_line.Tie as tie
+use Rattle.ring_forms.proofs.ring_line.Statement.{statement}
+use Rattle.ring_forms.proofs.ring_line.Tie as tie
 
 enum-known-a : tie.Need-enum-known-a
 enum-known-a c = search needs

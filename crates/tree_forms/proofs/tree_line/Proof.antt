@@ -1,9 +1,9 @@
--- `forms::tree_line` meets its contract. Assumes nothing.
+-- `tree_forms::tree_line` meets its contract. Assumes nothing.
 use Rattle.forms.proofs.Steps.{tree-made}
 use Rattle.forms.specs.Read.{madeOf}
 use borrow.Author.Needs.{needs}
-use Rattle.forms.proofs.tree_line.Statement.{statement}
-use Rattle.forms.proofs.tree_line.Tie as tie
+use Rattle.tree_forms.proofs.tree_line.Statement.{statement}
+use Rattle.tree_forms.proofs.tree_line.Tie as tie
 
 enum-known-a : tie.Need-enum-known-a
 enum-known-a c = search needs

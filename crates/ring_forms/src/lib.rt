@@ -1,0 +1,59 @@
+// The steps of a ring's log, each recognised where its line begins.
+use decimal::has;
+use forms::Args;
+use forms::RingLine;
+use forms::RingStep;
+use forms::closed;
+use forms::one_number;
+use forms::two_numbers;
+ghost use mathlib.Core.Path.{_≡_};
+ghost use Rattle.forms.specs.Exact.{RingRead};
+ghost use Rattle.forms.specs.Read.{madeOf, ringKind, ringLineOf, ringAt};
+
+// The ring's step of a kind number, of document 01's list.
+fn ring_kind(kind: u8, i: usize, j: usize) -> RingStep
+    ensures { λ r. ⌜ r ≡ ringKind kind i j ⌝ }
+{
+    match kind {
+        1 => RingStep::Send(i, j),
+        2 => RingStep::Take(i),
+        3 => RingStep::Idle(i),
+        4 => RingStep::Probe,
+        5 => RingStep::Pass(i),
+        _ => RingStep::Announce,
+    }
+}
+
+fn ring_line(kind: u8, a: Args) -> RingLine
+    ensures { λ r. ⌜ r ≡ ringLineOf (madeOf (ringKind kind) a) ⌝ }
+{
+    match a {
+        Args::Found(i, j, e) => RingLine::Step(ring_kind(kind, i, j), e),
+        Args::Bad => RingLine::NotAForm,
+    }
+}
+
+// The step of the ring that the line at `at` says.
+pub fn ring_step(s: &[u8], at: usize) -> RingLine
+    ensures { λ r. ⌜ (r ≡ ringAt (now (s .entry)) at) × RingRead (now (s .entry)) at r ⌝ }
+{
+    if has(s, at, b"(send") {
+        return ring_line(1, two_numbers(s, at + 5));
+    }
+    if has(s, at, b"(take") {
+        return ring_line(2, one_number(s, at + 5));
+    }
+    if has(s, at, b"(idle") {
+        return ring_line(3, one_number(s, at + 5));
+    }
+    if has(s, at, b"(probe") {
+        return ring_line(4, closed(s, at + 6, 0, 0));
+    }
+    if has(s, at, b"(pass") {
+        return ring_line(5, one_number(s, at + 5));
+    }
+    if has(s, at, b"(announce") {
+        return ring_line(6, closed(s, at + 9, 0, 0));
+    }
+    RingLine::NotAForm
+}
