@@ -7,9 +7,9 @@ use mathlib.Core.Logic.{_⊎_, inl, inr}
 use mathlib.Core.Path.{_∙_, _≡_, ap, subst⁻¹}
 use native.Mathlib.Omega.{arith}
 use Rattle.decimal.proofs.Put.{put-then}
-use Rattle.log.proofs.Held.{held-some}
-use Rattle.log.specs.Feed.{stageOf}
-use Rattle.log.specs.declared.Log.{Log}
+use Rattle.log_held.proofs.Held.{held-some}
+use Rattle.log_held.specs.Feed.{stageOf}
+use Rattle.log_held.specs.declared.Log.{Log}
 use Rattle.log_lines.specs.Lines.{part}
 use Rattle.log_rules.proofs.Cuts.{rest-cut, rest-done, rest-full}
 use Rattle.log_rules.specs.Lines.{lineLimit}

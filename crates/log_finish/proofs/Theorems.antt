@@ -5,8 +5,8 @@ use mathlib.Core.List.{List, [], _++_, append-assoc, append-nil}
 use mathlib.Core.Path.{_∙_, _≡_, ap, refl, sym}
 use native.Mathlib.Omega.{arith}
 use Rattle.decimal.proofs.Put.{put-stands}
-use Rattle.log.specs.Feed.{stageOf}
-use Rattle.log.specs.declared.Log.{Log}
+use Rattle.log_held.specs.Feed.{stageOf}
+use Rattle.log_held.specs.declared.Log.{Log}
 use Rattle.log_rules.specs.Output.{outputOf, restOf}
 use Rattle.log_rules.specs.Pieces.{heldOf}
 use Rattle.log_text.specs.Wrote.{Wrote}

@@ -3,9 +3,9 @@ use Prim.Native.Nat.{ℕ}
 use lib.ListN.{take}
 use mathlib.Core.List.{List, [], _++_, _∷_}
 use mathlib.Core.Path.{_≡_}
-use Rattle.log.specs.Feed.{FedFrom, stageOf}
-use Rattle.log.specs.declared.Fed.{Fed}
-use Rattle.log.specs.declared.Log.{Log}
+use Rattle.log_held.specs.Feed.{FedFrom, stageOf}
+use Rattle.log_held.specs.declared.Fed.{Fed}
+use Rattle.log_held.specs.declared.Log.{Log}
 use Rattle.log_rules.specs.Output.{outputOf}
 use Rattle.log_rules.specs.Pieces.{heldOf}
 use Rattle.log_finish.specs.Finish.{Finished}

@@ -57,15 +57,11 @@ pub fn send<'a>(
     }
     unacked[i] += 1;
     transit[i * 16 + j] += 1;
-    let rest = Rest {
-        n: r.n,
-        root: r.root,
-        sends: r.sends + 1,
-        closed: r.closed,
-    };
+    let mut rest = r;
+    rest.sends += 1;
     Told {
         verdict: Verdict::Accepted,
-        rest: rest,
+        rest,
     }
 }
 

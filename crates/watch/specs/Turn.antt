@@ -4,8 +4,8 @@ use lib.ListN.{length, take}
 use mathlib.Core.Bool.{false}
 use mathlib.Core.List.{List}
 use mathlib.Core.Path.{_≡_}
-use Rattle.log.specs.Feed.{FedFrom, stageOf}
-use Rattle.log.specs.declared.Log.{Log}
+use Rattle.log_held.specs.Feed.{FedFrom, stageOf}
+use Rattle.log_held.specs.declared.Log.{Log}
 use Rattle.log_rules.specs.Pieces.{heldOf}
 use Rattle.watch.specs.declared.Step.{Step}
 

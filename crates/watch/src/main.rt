@@ -1,9 +1,9 @@
 // Reads a log from standard input in pieces of 64 KiB and writes the answers to standard output, one write for each piece.
-use log::Log;
+use log_held::Log;
 ghost use mathlib.Core.Path.{_≡_};
 ghost use Prim.Native.Nat.{_+_, _*_, _≤_};
 ghost use lib.ListN.{length};
-ghost use Rattle.log.specs.Feed.{Good};
+ghost use Rattle.log_held.specs.Feed.{Good};
 ghost use Rattle.watch.specs.Turn.{Turned};
 
 // The log after a piece, how many bytes of answers were handed to write, whether to go on, and whether a read or a write failed.

@@ -2,7 +2,7 @@ use borrow.Author.Needs.{needs}
 use mathlib.Core.Path.{ap, subst}
 use native.Mathlib.Omega.{arith}
 use Rattle.log_first.specs.Open.{Begun, SoundStage, stageBy}
-use Rattle.log.proofs.Feeds.{over-fed}
+use Rattle.log_held.proofs.Feeds.{over-fed}
 use Rattle.log.proofs.go_on.Statement.{statement}
 use Rattle.log_first.specs.declared.Stage as code
 use Rattle.log.proofs.go_on.Tie as tie

@@ -58,8 +58,8 @@ add-transit-2 c = record { fits = omega (arith, transit-small _ (c .before .befo
 element-write-transit : tie.Need-element-write-transit
 element-write-transit c = search needs
 
-add-t28 : tie.Need-add-t28
-add-t28 c = search needs
+add-rest : tie.Need-add-rest
+add-rest c = search needs
 
 returns-6 : tie.Need-returns-6
 returns-6 c = accepted-answer _ Send _ _ (c .before .before .before .before .before .before .before .before .before .before .before .before .pre) refl (rw (lt-leb _ _ (c .before .before .before .before .before .before .before .before .before .before .if1 .left), lt-leb _ _ (c .before .before .before .before .before .before .before .before .if2 .left))) (ne-eqb _ _ (c .before .before .before .before .before .before .before .if3 .left)) (not-false _ (c .before .before .before .before .before .if4 .left)) (lt-leb _ _ (c .before .before .before .if5 .left))
@@ -84,5 +84,5 @@ send-spec =
     element-copy-out-transit
     add-transit-2
     element-write-transit
-    add-t28
+    add-rest
     returns-6)

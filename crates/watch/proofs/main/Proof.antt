@@ -3,7 +3,7 @@ use lib.ListN.{length-replicate}
 use lib.Seq.{length-take-le}
 use mathlib.Core.Path.{sym}
 use native.Mathlib.Omega.{arith}
-use Rattle.log.proofs.Feeds.{start-good}
+use Rattle.log_held.proofs.Feeds.{start-good}
 use borrow.Author.Needs.{needs}
 use Rattle.watch.proofs.main.Statement.{statement}
 use Rattle.watch.proofs.main.Tie as tie

@@ -1,7 +1,7 @@
 use lib.ListN.{length}
 use mathlib.Core.Path.{_≡_, refl}
 use native.Mathlib.Omega.{arith}
-use Rattle.log.specs.Feed.{Good}
+use Rattle.log_held.specs.Feed.{Good}
 use Rattle.watch.proofs.pump.Statement.{statement}
 use Rattle.watch.proofs.pump.Tie as tie
 

@@ -18,10 +18,10 @@ use Rattle.log_rules.specs.Lines.{lineLimit}
 use Rattle.log_rules.specs.Output.{restOf}
 use Rattle.log_rules.specs.Pieces.{NoMore, OneLine, PartLine, Went, cut, empty, full, hasLine, heldOf, notTold}
 use Rattle.log_text.specs.Wrote.{Wrote}
-use Rattle.log.proofs.Held.{held-more, part-all, part-line, sound-later, stands-part, stands-rest, told-line, told-long, went-whole}
-use Rattle.log.specs.Feed.{FedFrom, Going, Good, HeldRest, HeldTold, Room, Stands, stageOf}
-use Rattle.log.specs.declared.Fed.{Fed}
-use Rattle.log.specs.declared.Log.{Log}
+use Rattle.log_held.proofs.Held.{held-more, part-all, part-line, sound-later, stands-part, stands-rest, told-line, told-long, went-whole}
+use Rattle.log_held.specs.Feed.{FedFrom, Going, Good, HeldRest, HeldTold, Room, Stands, stageOf}
+use Rattle.log_held.specs.declared.Fed.{Fed}
+use Rattle.log_held.specs.declared.Log.{Log}
 use Rattle.log_rules.specs.Answers as rules
 use Rattle.log_lines.proofs.Ends as ends
 use Rattle.forms.specs.Form as forms

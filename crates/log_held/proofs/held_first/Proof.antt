@@ -4,14 +4,14 @@ use mathlib.Core.Path.{_∙_, ap, sym}
 use native.Mathlib.Omega.{arith}
 use Rattle.log_rules.proofs.Cuts.{long-told}
 use Rattle.log_rules.proofs.Ends.{ended-itself}
-use Rattle.log.proofs.Feeds.{first-held}
-use Rattle.log.proofs.Held.{first-told}
-use Rattle.log.proofs.held_first.Statement.{statement}
+use Rattle.log_held.proofs.Feeds.{first-held}
+use Rattle.log_held.proofs.Held.{first-told}
+use Rattle.log_held.proofs.held_first.Statement.{statement}
 use Rattle.log_rules.specs.Answers as rules
-use Rattle.log.proofs.held_first.Tie as tie
-use Rattle.log.proofs.held_first.Reads as reads
-use Rattle.log.proofs.held_first.Lts as lts
-use Rattle.log.proofs.begun.Reads as begun-reads
+use Rattle.log_held.proofs.held_first.Tie as tie
+use Rattle.log_held.proofs.held_first.Reads as reads
+use Rattle.log_held.proofs.held_first.Lts as lts
+use Rattle.log_held.proofs.begun.Reads as begun-reads
 use Rattle.log_first.proofs.open_run.Reads as open-run-reads
 use Rattle.log_first.proofs.refuse.Reads as refuse-reads
 

@@ -15,7 +15,7 @@ use Rattle.log_rules.proofs.Ends.{ended-itself, ended-left}
 use Rattle.log_rules.specs.Lines.{lineLimit}
 use Rattle.log_rules.specs.Output.{restOf}
 use Rattle.log_rules.specs.Pieces.{NoMore, OneLine, PartLine, Went, another, cut, empty, full, heldOf, notTold}
-use Rattle.log.specs.Feed.{Stands}
+use Rattle.log_held.specs.Feed.{Stands}
 use Rattle.log_rules.specs.Answers as rules
 use Rattle.forms.specs.Form as forms
 use Rattle.decimal.proofs.Cases as cases

@@ -2,16 +2,16 @@ use borrow.Author.Needs.{needs}
 use mathlib.Core.Path.{_∙_, ap, refl, subst}
 use native.Mathlib.Omega.{arith}
 use Rattle.log_first.specs.Open.{SoundStage, stageBy}
-use Rattle.log.proofs.Feeds.{over-held}
-use Rattle.log.proofs.answer_held.Statement.{statement}
+use Rattle.log_held.proofs.Feeds.{over-held}
+use Rattle.log_held.proofs.answer_held.Statement.{statement}
 use Rattle.log_first.specs.declared.Stage as code
-use Rattle.log.proofs.answer_held.Tie as tie
-use Rattle.log.proofs.answer_held.Reads as reads
-use Rattle.log.proofs.answer_held.Lts as lts
-use Rattle.log.proofs.held_first.Reads as held-first-reads
-use Rattle.log.proofs.held_ring.Reads as held-ring-reads
-use Rattle.log.proofs.held_tree.Reads as held-tree-reads
-use Rattle.log.proofs.holding.Reads as holding-reads
+use Rattle.log_held.proofs.answer_held.Tie as tie
+use Rattle.log_held.proofs.answer_held.Reads as reads
+use Rattle.log_held.proofs.answer_held.Lts as lts
+use Rattle.log_held.proofs.held_first.Reads as held-first-reads
+use Rattle.log_held.proofs.held_ring.Reads as held-ring-reads
+use Rattle.log_held.proofs.held_tree.Reads as held-tree-reads
+use Rattle.log_held.proofs.holding.Reads as holding-reads
 
 enum-told : tie.Need-enum-told
 enum-told c = search needs

@@ -7,13 +7,13 @@ use native.Mathlib.Omega.{arith}
 use Rattle.log_text.proofs.Texts.{answer-short}
 use Rattle.refusal.specs.declared.Refusal.the-variants.{NotAForm}
 use Rattle.refusal.specs.declared.Verdict.the-variants.{Refused}
-use Rattle.log.proofs.Feeds.{long-held, went-held}
-use Rattle.log.proofs.held_tree.Statement.{statement}
+use Rattle.log_held.proofs.Feeds.{long-held, went-held}
+use Rattle.log_held.proofs.held_tree.Statement.{statement}
 use Rattle.log_rules.specs.Answers as rules
 use Rattle.tree.specs.View as view
-use Rattle.log.proofs.held_tree.Tie as tie
-use Rattle.log.proofs.held_tree.Reads as reads
-use Rattle.log.proofs.held_tree.Lts as lts
+use Rattle.log_held.proofs.held_tree.Tie as tie
+use Rattle.log_held.proofs.held_tree.Reads as reads
+use Rattle.log_held.proofs.held_tree.Lts as lts
 use Rattle.log_text.proofs.put_answer.Reads as put-answer-reads
 use Rattle.log_tree.proofs.tree_piece.Reads as tree-piece-reads
 

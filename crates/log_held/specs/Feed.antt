@@ -8,8 +8,8 @@ use Rattle.log_rules.specs.Lines.{lineLimit}
 use Rattle.log_rules.specs.Output.{restOf}
 use Rattle.log_rules.specs.Pieces.{OneLine, PartLine, heldOf, lineBytes}
 use Rattle.log_text.specs.Wrote.{Wrote}
-use Rattle.log.specs.declared.Fed.{Fed}
-use Rattle.log.specs.declared.Log.{Log}
+use Rattle.log_held.specs.declared.Fed.{Fed}
+use Rattle.log_held.specs.declared.Log.{Log}
 use Rattle.log_rules.specs.Answers as rules
 
 abbrev pub stageOf : Log → rules.Stage

@@ -7,13 +7,13 @@ use native.Mathlib.Omega.{arith}
 use Rattle.log_text.proofs.Texts.{answer-short}
 use Rattle.refusal.specs.declared.Refusal.the-variants.{NotAForm}
 use Rattle.refusal.specs.declared.Verdict.the-variants.{Refused}
-use Rattle.log.proofs.Feeds.{long-held, went-held}
-use Rattle.log.proofs.held_ring.Statement.{statement}
+use Rattle.log_held.proofs.Feeds.{long-held, went-held}
+use Rattle.log_held.proofs.held_ring.Statement.{statement}
 use Rattle.log_rules.specs.Answers as rules
 use Rattle.ring.specs.View as view
-use Rattle.log.proofs.held_ring.Tie as tie
-use Rattle.log.proofs.held_ring.Reads as reads
-use Rattle.log.proofs.held_ring.Lts as lts
+use Rattle.log_held.proofs.held_ring.Tie as tie
+use Rattle.log_held.proofs.held_ring.Reads as reads
+use Rattle.log_held.proofs.held_ring.Lts as lts
 use Rattle.log_ring.proofs.ring_piece.Reads as ring-piece-reads
 use Rattle.log_text.proofs.put_answer.Reads as put-answer-reads
 
