@@ -1,6 +1,6 @@
 -- The readers of numbers are exact: they find a number at a place exactly where its decimal text stands. Assumes nothing.
 use mathlib.Core.Path.{_≡_, refl, sym, ap, _∙_, subst}
-use mathlib.Core.Bool.{Bool, true, false}
+use mathlib.Core.Bool.{_&&_, Bool, cond, false, true}
 use mathlib.Core.Logic.{⊎-elim, _↔_}
 use mathlib.Core.List.{List, [], _∷_, _++_, append-assoc, append-nil}
 use Prim.Native.Nat.{ℕ, suc, _+_, _-_, _*_, _/_, _%_, _≤_, _<_, min}
@@ -12,8 +12,7 @@ use borrow.Author.Tests.{le-leb, lt-leb, leb-true, leb-false, le-ltb, ltb-false,
 use Rattle.decimal.specs.declared.Num.{Num}
 use Rattle.decimal.specs.declared.Num.the-variants.{Value, Wrong}
 use Rattle.decimal.specs.Text.{decimal}
-use Rattle.decimal.specs.Word.{both}
-use Rattle.decimal.specs.Number.{digitB, capped, stopped, scanOf, pickNum, checked, numberOf, keptOf, shortOf}
+use Rattle.decimal.specs.Number.{digitB, capped, stopped, scanOf, checked, numberOf, keptOf, shortOf}
 use Rattle.decimal.specs.Exact.{Stands, NumberAt, ShortAt}
 use Rattle.decimal.proofs.Cases.{both-left, both-right, both-off, split, rest, take-head, first-of, advance}
 use Rattle.decimal.proofs.Decimal.{decimal-small, decimal-large, decimal-induct, decimal-some}
@@ -145,15 +144,15 @@ nil-of : (d : List ℕ) → length d ≡ 0 → d ≡ []
 nil-of [] h = refl
 nil-of (x ∷ d) h = absurd (let y : ⊥ = omega arith in y)
 
-lead : (x at e k : ℕ) → x ≡ 48 → both (eqb x 48) (ltb (at + 1) e) ≡ false → e ≡ at + suc k → k ≡ 0
+lead : (x at e k : ℕ) → x ≡ 48 → (eqb x 48 && ltb (at + 1) e) ≡ false → e ≡ at + suc k → k ≡ 0
 lead x at e k is r a =
     let r2 : ltb (at + 1) e ≡ false = rw (eq-eqb x 48 is) at r in
     omega (arith, ltb-false (at + 1) e r2)
 
 checked-by : (s : List ℕ) (at : ℕ) (d u : List ℕ) → drop at s ≡ d ++ u → Digits d → digitB (getD u 0 0) ≡ false
     → (w i : ℕ) → w ≡ min (value 0 d) 100000 → i ≡ at + length d
-    → (none led : Bool) → leb i at ≡ none → both (eqb (getD s at 0) 48) (ltb (at + 1) i) ≡ led
-    → (v e : ℕ) → pickNum none Wrong (pickNum led Wrong (Value w i)) ≡ Value v e → NumberAt s at v e
+    → (none led : Bool) → leb i at ≡ none → (eqb (getD s at 0) 48 && ltb (at + 1) i) ≡ led
+    → (v e : ℕ) → cond none Wrong (cond led Wrong (Value w i)) ≡ Value v e → NumberAt s at v e
 checked-by s at d u t g k w i wi ii true led p q v e h = nothing v e h
 checked-by s at d u t g k w i wi ii false true p q v e h = nothing v e h
 checked-by s at [] u t g k w i wi ii false false p q v e h = absurd (let y : ⊥ = omega (arith, leb-false i at p) in y)
@@ -186,7 +185,7 @@ number-sound s at v e h =
     let i = at + length (r .digits) in
     let h2 : checked (getD s at 0) at (stopped w i) ≡ Value v e = ap (checked (getD s at 0) at) (sym (number-run s at r)) ∙ h in
     checked-by s at (r .digits) (r .others) (r .is) (r .all) (r .end) w i refl refl
-    (leb i at) (both (eqb (getD s at 0) 48) (ltb (at + 1) i)) refl refl v e h2
+    (leb i at) (eqb (getD s at 0) 48 && ltb (at + 1) i) refl refl v e h2
 
 -- 4. a number that stands there is found
 head-append : (a b : List ℕ) → 0 < length a → getD (a ++ b) 0 0 ≡ getD a 0 0
@@ -202,7 +201,7 @@ decimal-head =
     rw (decimal-large n many, head-append (decimal (n / 10)) ((48 + n % 10) ∷ []) (decimal-some (n / 10))) (h (omega arith)))
 
 not-led : (s : List ℕ) (at n : ℕ) (u : List ℕ) → drop at s ≡ decimal n ++ u
-    → both (eqb (getD s at 0) 48) (ltb (at + 1) (at + length (decimal n))) ≡ false
+    → (eqb (getD s at 0) 48 && ltb (at + 1) (at + length (decimal n))) ≡ false
 not-led s at n u h =
     ⊎-elim
     (λ few.
@@ -241,7 +240,7 @@ number-exact s at v e = (number-sound s at v e, number-back s at v e)
 pub cap-below : (n most : ℕ) → most ≤ 100000 → (min n 100000 < most) ↔ (n < most)
 cap-below n most h = (λ k. omega arith, λ k. omega arith)
 
-kept-by : (w i v e : ℕ) (t : Bool) → ltb 99999 w ≡ t → pickNum t Wrong (Value w i) ≡ Value v e → (Value w i ≡ Value v e) × (v ≤ 99999)
+kept-by : (w i v e : ℕ) (t : Bool) → ltb 99999 w ≡ t → cond t Wrong (Value w i) ≡ Value v e → (Value w i ≡ Value v e) × (v ≤ 99999)
 kept-by w i v e true p h = nothing v e h
 kept-by w i v e false p h = (h, let wv : w ≡ v = cc in omega (arith, ltb-false 99999 w p))
 

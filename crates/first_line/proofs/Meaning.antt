@@ -1,6 +1,6 @@
 -- What the answer's flags and top say of the lists. Assumes nothing.
 use mathlib.Core.Path.{_≡_, refl, sym, ap, _∙_}
-use mathlib.Core.Bool.{Bool, true, false}
+use mathlib.Core.Bool.{Bool, cond, false, true}
 use mathlib.Core.Logic.{_↔_}
 use mathlib.Core.List.{List, [], _∷_}
 use Prim.Native.Nat.{ℕ, _+_, _≤_, _<_, max}
@@ -11,7 +11,6 @@ use lib.Dec.{ltb, eqb}
 use lib.Bits.{bitOr}
 use borrow.Author.Tests.{lt-ltb, eqb-true, eqb-false}
 use Rattle.forms.specs.Form.{Ascending}
-use Rattle.forms.specs.Read.{pick}
 use Rattle.first_line.specs.Start.{bare, lists, zeros, flagged, flagAll, topOf, seen}
 use Rattle.first_line.specs.Meaning.{named, Below, flagByte, Means}
 
@@ -31,7 +30,7 @@ top-mean a b n = (
 )
 
 -- 2. the flag of a node
-other-pick : (t : Bool) (fl : List ℕ) (k i v : ℕ) → (i ≡ k → ⊥) → getD (pick t (set fl k v) fl) i 0 ≡ getD fl i 0
+other-pick : (t : Bool) (fl : List ℕ) (k i v : ℕ) → (i ≡ k → ⊥) → getD (cond t (set fl k v) fl) i 0 ≡ getD fl i 0
 other-pick true fl k i v h = getD-set-other fl k i v 0 h
 other-pick false fl k i v h = refl
 
@@ -41,7 +40,7 @@ other-flag bit k i fl h = other-pick (ltb k 96) fl k i (bitOr (getD fl k 0) bit)
 same-flag : (bit k : ℕ) (fl : List ℕ) → k < 96 → length fl ≡ 96 → getD (flagged bit k fl) k 0 ≡ bitOr (getD fl k 0) bit
 same-flag bit k fl h l = rw (lt-ltb k 96 h) (getD-set-same fl k (bitOr (getD fl k 0) bit) 0 (omega arith))
 
-pick-length : (t : Bool) (fl : List ℕ) (k v : ℕ) → length (pick t (set fl k v) fl) ≡ length fl
+pick-length : (t : Bool) (fl : List ℕ) (k v : ℕ) → length (cond t (set fl k v) fl) ≡ length fl
 pick-length true fl k v = length-set fl k v
 pick-length false fl k v = refl
 
@@ -61,9 +60,9 @@ flag-out bit i (k ∷ ks) low fl a h =
     flag-out bit i ks (k + 1) (flagged bit k fl) (a .2) up ∙ other-flag bit k i fl ne
 
 flag-by : (bit i k : ℕ) (ks fl : List ℕ) → i < 96 → length fl ≡ 96 → Ascending (k + 1) ks
-    → (getD (flagAll bit ks (flagged bit k fl)) i 0 ≡ pick (named ks i) (bitOr (getD (flagged bit k fl) i 0) bit) (getD (flagged bit k fl) i 0))
+    → (getD (flagAll bit ks (flagged bit k fl)) i 0 ≡ cond (named ks i) (bitOr (getD (flagged bit k fl) i 0) bit) (getD (flagged bit k fl) i 0))
     → (t : Bool) → eqb k i ≡ t
-    → getD (flagAll bit ks (flagged bit k fl)) i 0 ≡ pick (pick t true (named ks i)) (bitOr (getD fl i 0) bit) (getD fl i 0)
+    → getD (flagAll bit ks (flagged bit k fl)) i 0 ≡ cond (cond t true (named ks i)) (bitOr (getD fl i 0) bit) (getD fl i 0)
 flag-by bit i k ks fl h l a ih true e =
     let is : k ≡ i = eqb-true k i e in
     let up : i < k + 1 = omega arith in
@@ -72,15 +71,15 @@ flag-by bit i k ks fl h l a ih true e =
     ∙ (ap (λ (j : ℕ). getD (flagged bit k fl) j 0) (sym is) ∙ (same-flag bit k fl hk l ∙ ap (λ (j : ℕ). bitOr (getD fl j 0) bit) is))
 flag-by bit i k ks fl h l a ih false e =
     let ne : i ≡ k → ⊥ = λ q. eqb-false k i e (sym q) in
-    ih ∙ ap (λ (x : ℕ). pick (named ks i) (bitOr x bit) x) (other-flag bit k i fl ne)
+    ih ∙ ap (λ (x : ℕ). cond (named ks i) (bitOr x bit) x) (other-flag bit k i fl ne)
 
 flag-at : (bit i : ℕ) (ks : List ℕ) (low : ℕ) (fl : List ℕ) → i < 96 → length fl ≡ 96 → Ascending low ks
-    → getD (flagAll bit ks fl) i 0 ≡ pick (named ks i) (bitOr (getD fl i 0) bit) (getD fl i 0)
+    → getD (flagAll bit ks fl) i 0 ≡ cond (named ks i) (bitOr (getD fl i 0) bit) (getD fl i 0)
 flag-at bit i [] low fl h l a = refl
 flag-at bit i (k ∷ ks) low fl h l a =
     flag-by bit i k ks fl h l (a .2) (flag-at bit i ks (k + 1) (flagged bit k fl) h (flag-length bit k fl ∙ l) (a .2)) (eqb k i) refl
 
-two-bits : (a b : Bool) → pick b (bitOr (pick a (bitOr 0 1) 0) 2) (pick a (bitOr 0 1) 0) ≡ flagByte a b
+two-bits : (a b : Bool) → cond b (bitOr (cond a (bitOr 0 1) 0) 2) (cond a (bitOr 0 1) 0) ≡ flagByte a b
 two-bits false false = refl
 two-bits true false = refl
 two-bits false true = refl
@@ -91,9 +90,9 @@ flag-mean : (active black : List ℕ) (i : ℕ) → i < 96 → Ascending 0 activ
 flag-mean a b i h ha hb =
     let z : getD zeros i 0 ≡ 0 = getD-replicate 96 i 0 0 h in
     let n : length zeros ≡ 96 = length-replicate {A = ℕ} 96 0 in
-    let first : getD (flagAll 1 a zeros) i 0 ≡ pick (named a i) (bitOr 0 1) 0 = flag-at 1 i a 0 zeros h n ha ∙ ap (λ (x : ℕ). pick (named a i) (bitOr x 1) x) z in
+    let first : getD (flagAll 1 a zeros) i 0 ≡ cond (named a i) (bitOr 0 1) 0 = flag-at 1 i a 0 zeros h n ha ∙ ap (λ (x : ℕ). cond (named a i) (bitOr x 1) x) z in
     flag-at 2 i b 0 (flagAll 1 a zeros) h (all-length 1 a zeros ∙ n) hb
-    ∙ (ap (λ (x : ℕ). pick (named b i) (bitOr x 2) x) first ∙ two-bits (named a i) (named b i))
+    ∙ (ap (λ (x : ℕ). cond (named b i) (bitOr x 2) x) first ∙ two-bits (named a i) (named b i))
 
 -- 3. the answer to a ring line
 pub lists-mean : (n : ℕ) (active black : List ℕ) (e : ℕ) → Ascending 0 active → Ascending 0 black

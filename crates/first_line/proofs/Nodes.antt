@@ -1,6 +1,6 @@
 -- The list of nodes: the steps of its reader, and that it finds exactly the list that stands there. Assumes nothing.
 use mathlib.Core.Path.{_≡_, refl, sym, ap, _∙_}
-use mathlib.Core.Bool.{Bool, true, false}
+use mathlib.Core.Bool.{Bool, cond, false, true}
 use mathlib.Core.List.{List, [], _∷_, _++_, append-assoc}
 use Prim.Native.Nat.{ℕ, zero, suc, _+_, _-_, _≤_, _<_, max}
 use native.Mathlib.Omega.{arith}
@@ -14,7 +14,7 @@ use Rattle.decimal.specs.Text.{decimal}
 use Rattle.decimal.specs.Number.{digitB}
 use Rattle.decimal.proofs.Cases.{take-head, first-of}
 use Rattle.forms.specs.Form.{numbers, Small, Ascending}
-use Rattle.forms.specs.Read.{pick, spacedOf, Read, read, other}
+use Rattle.forms.specs.Read.{spacedOf, Read, read, other}
 use Rattle.forms.proofs.Arguments.{spaced-sound, spaced-found}
 use Rattle.first_line.specs.declared.Marks.{Marks}
 use Rattle.first_line.specs.Start.{flagged}
@@ -103,7 +103,7 @@ cons-listed s low at k p lo small t (read ks e) h = (
 )
 
 low-by : (s : List ℕ) (low at k p : ℕ) → Small k → drop at s ≡ bytes " " ++ (decimal k ++ drop p s)
-    → (r : Read (List ℕ)) → Listed s (k + 1) p r → (t : Bool) → ltb k low ≡ t → Listed s low at (pick t other (consOf k r))
+    → (r : Read (List ℕ)) → Listed s (k + 1) p r → (t : Bool) → ltb k low ≡ t → Listed s low at (cond t other (consOf k r))
 low-by s low at k p small e r h true q = tt
 low-by s low at k p small e r h false q = cons-listed s low at k p (ltb-false k low q) small e r h
 
@@ -115,7 +115,7 @@ entry-by s low at others ih (Value k p) e =
     let r = spaced-sound s at k p e in
     low-by s low at k p (r .1) (r .0) (others (k + 1) p) (ih (k + 1) p) (ltb k low) refl
 
-space-by : (s : List ℕ) (low at : ℕ) (r : Read (List ℕ)) (t : Bool) → Listed s low at r → Listed s low at (pick t r (read [] at))
+space-by : (s : List ℕ) (low at : ℕ) (r : Read (List ℕ)) (t : Bool) → Listed s low at r → Listed s low at (cond t r (read [] at))
 space-by s low at r true h = h
 space-by s low at r false h = (tt, refl)
 

@@ -1,6 +1,6 @@
 -- The recogniser of first lines is exact: it opens a line exactly if the line says a first line. Assumes nothing.
 use mathlib.Core.Path.{_≡_, refl, sym, ap, _∙_, subst}
-use mathlib.Core.Bool.{Bool, true, false}
+use mathlib.Core.Bool.{Bool, cond, false, true}
 use mathlib.Core.Logic.{_⊎_, inl, inr, _↔_}
 use mathlib.Core.List.{List, _++_, append-assoc}
 use Prim.Native.Nat.{ℕ, _+_, _≤_, _<_}
@@ -17,7 +17,7 @@ use Rattle.decimal.specs.Number.{digitB}
 use Rattle.decimal.proofs.Cases.{advance}
 use Rattle.decimal.proofs.Words.{word-sound, word-back, word-in}
 use Rattle.forms.specs.Form.{numbers, formText, Small, Ascending, SmallForm, Says, line, SaysAt}
-use Rattle.forms.specs.Read.{pick, spacedOf, Read, read, other}
+use Rattle.forms.specs.Read.{spacedOf, Read, read, other}
 use Rattle.forms.proofs.Arguments.{spaced-sound, spaced-found, place}
 use Rattle.forms.proofs.Lines.{form-line, form-some, line-rest}
 use Rattle.first_line.specs.declared.Kind.the-variants.{NotAForm}
@@ -58,14 +58,14 @@ module _ (s : List ℕ) (at : ℕ) where
   Sound (read f e) = (drop at s ≡ formText (startForm f) ++ drop e s) × (e ≤ length s) × SmallForm (startForm f)
   Sound other = Unit {0}
 
-  pick-sound : (t : Bool) (a b : Read Start) → (t ≡ true → Sound a) → Sound b → Sound (pick t a b)
+  pick-sound : (t : Bool) (a b : Read Start) → (t ≡ true → Sound a) → Sound b → Sound (cond t a b)
   pick-sound true a b f g = f refl
   pick-sound false a b f g = g
 
   -- the last word of a line
   last-sound : (w : List ℕ) (q : ℕ) (f : Start) → 0 < length w → SmallForm (startForm f)
       → (drop q s ≡ w ++ drop (q + length w) s → drop at s ≡ formText (startForm f) ++ drop (q + length w) s)
-      → (b : Read Start) → Sound b → Sound (pick (starts w (drop q s)) (read f (q + length w)) b)
+      → (b : Read Start) → Sound b → Sound (cond (starts w (drop q s)) (read f (q + length w)) b)
   last-sound w q f n small text b g =
       pick-sound (starts w (drop q s)) _ b (λ h. (text (word-sound s q w h), word-in s q w n h, small)) g
 
@@ -205,7 +205,7 @@ module _ (s : List ℕ) (at : ℕ) where
       r .1 ∙ ap (read f) (start-end f (r .0) (r .1))
 
   -- 3. exact both ways
-  fitted-by : (g : Start) (d : ℕ) (t : Bool) → ltb (at + 700) d ≡ t → (f : Start) (e : ℕ) → pick t other (read g d) ≡ read f e
+  fitted-by : (g : Start) (d : ℕ) (t : Bool) → ltb (at + 700) d ≡ t → (f : Start) (e : ℕ) → cond t other (read g d) ≡ read f e
       → (read g d ≡ read f e) × (e ≤ at + 700)
   fitted-by g d true q f e h = absurd (let z : _≡_ {A = ℕ} 0 1 = cc in let y : ⊥ = omega arith in y)
   fitted-by g d false q f e h = (h, let x : d ≡ e = cc in omega (arith, ltb-false (at + 700) d q))

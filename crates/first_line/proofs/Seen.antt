@@ -1,18 +1,18 @@
 -- What the code holds of a first line is what is seen of it: the steps from one to the other. Assumes nothing.
 use mathlib.Core.Path.{_≡_, refl, ap, _∙_, subst}
-use mathlib.Core.Bool.{Bool, true, false}
+use mathlib.Core.Bool.{Bool, cond, false, true}
 use mathlib.Core.List.{List}
 use Prim.Native.Nat.{ℕ, _+_, _≤_, _<_}
 use lib.ListN.{drop}
 use borrow.Author.Tests.{lt-ltb, le-ltb}
 use Rattle.decimal.specs.Bytes.{bytes}
 use Rattle.decimal.specs.Word.{starts}
-use Rattle.forms.specs.Read.{pick, Read, read, other}
+use Rattle.forms.specs.Read.{Read, read, other}
 use Rattle.first_line.specs.declared.First.{First}
 use Rattle.first_line.specs.Start.{Start, bare, lists, tree, zeros, noFirst, flagAll, topOf, seen, seenOf}
 use Rattle.first_line.specs.Read.{entriesAt, marksOf, afterBlack, afterActive, blackAt, activeAt, startAt, fitted, firstAt}
 
-pick-seen : (t : Bool) (a b : Read Start) → pick t (seenOf a) (seenOf b) ≡ seenOf (pick t a b)
+pick-seen : (t : Bool) (a b : Read Start) → cond t (seenOf a) (seenOf b) ≡ seenOf (cond t a b)
 pick-seen true a b = refl
 pick-seen false a b = refl
 
@@ -25,7 +25,7 @@ black-seen s n active other = refl
 pub active-seen : (s : List ℕ) (n : ℕ) (r : Read (List ℕ)) → afterActive s n (marksOf 1 zeros 0 r) ≡ seenOf (activeAt s n r)
 unfolding afterActive activeAt
 active-seen s n (read active q) =
-    ap (λ (x : First). pick (starts (bytes ") (black") (drop q s)) x noFirst) (black-seen s n active (entriesAt s (q + 8)))
+    ap (λ (x : First). cond (starts (bytes ") (black") (drop q s)) x noFirst) (black-seen s n active (entriesAt s (q + 8)))
     ∙ pick-seen (starts (bytes ") (black") (drop q s)) (blackAt s n active (entriesAt s (q + 8))) other
 active-seen s n other = refl
 

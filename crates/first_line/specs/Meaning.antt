@@ -1,18 +1,17 @@
 -- What the fields of a ring's answer mean. Assumes nothing.
 use mathlib.Core.Path.{_≡_}
-use mathlib.Core.Bool.{Bool, true, false}
+use mathlib.Core.Bool.{Bool, cond, false, true}
 use mathlib.Core.Logic.{_↔_}
 use mathlib.Core.List.{List, [], _∷_}
 use Prim.Native.Nat.{ℕ, _+_, _≤_, _<_}
 use lib.ListN.{length, getD}
 use lib.Dec.{eqb}
-use Rattle.forms.specs.Read.{pick}
 use Rattle.first_line.specs.declared.First.{First}
 
 -- the list names node i
 abbrev pub named : List ℕ → ℕ → Bool
 named [] i = false
-named (k ∷ ks) i = pick (eqb k i) true (named ks i)
+named (k ∷ ks) i = cond (eqb k i) true (named ks i)
 
 -- each node of the list is below n
 abbrev pub Below : ℕ → List ℕ → Type 0
@@ -21,7 +20,7 @@ Below n (k ∷ ks) = (k < n) × Below n ks
 
 -- "value 0 to 3, lowest bit active, next bit black": 1 if the node is active, and 2 more if it is black
 abbrev pub flagByte : Bool → Bool → ℕ
-flagByte active black = pick active 1 0 + pick black 2 0
+flagByte active black = cond active 1 0 + cond black 2 0
 
 -- the answer r to a ring line with these lists
 pub record Means (active black : List ℕ) (r : First) : Type 0 where

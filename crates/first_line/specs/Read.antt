@@ -1,5 +1,5 @@
 -- The recogniser of first lines, as the code goes. What it answers is `Exact`. Assumes nothing.
-use mathlib.Core.Bool.{true, false}
+use mathlib.Core.Bool.{cond, false, true}
 use mathlib.Core.List.{List, [], _∷_}
 use Prim.Native.Nat.{ℕ, zero, suc, _+_}
 use lib.ListN.{length, getD, drop}
@@ -8,7 +8,7 @@ use Rattle.decimal.specs.declared.Num.{Num}
 use Rattle.decimal.specs.declared.Num.the-variants.{Value, Wrong}
 use Rattle.decimal.specs.Bytes.{bytes}
 use Rattle.decimal.specs.Word.{starts}
-use Rattle.forms.specs.Read.{pick, spacedOf, Read, read, other}
+use Rattle.forms.specs.Read.{spacedOf, Read, read, other}
 use Rattle.first_line.specs.declared.First.{First}
 use Rattle.first_line.specs.declared.Marks.{Marks}
 use Rattle.first_line.specs.Start.{Start, bare, lists, tree, zeros, ringFirst, noFirst, flagAll, topOf}
@@ -19,13 +19,13 @@ consOf k (read ks e) = read (k ∷ ks) e
 consOf k other = other
 
 unfoldable pub entryOf : (ℕ → ℕ → Read (List ℕ)) → ℕ → Num → Read (List ℕ)
-entryOf others low (Value k p) = pick (ltb k low) other (consOf k (others (k + 1) p))
+entryOf others low (Value k p) = cond (ltb k low) other (consOf k (others (k + 1) p))
 entryOf others low Wrong = other
 
 -- the nodes at index `at`, each of `low` or more and after one space
 unfoldable pub entriesOf : ℕ → List ℕ → ℕ → ℕ → Read (List ℕ)
 entriesOf zero s low at = other
-entriesOf (suc fuel) s low at = pick (eqb (getD s at 0) 32) (entryOf (entriesOf fuel s) low (spacedOf s at)) (read [] at)
+entriesOf (suc fuel) s low at = cond (eqb (getD s at 0) 32) (entryOf (entriesOf fuel s) low (spacedOf s at)) (read [] at)
 
 abbrev pub entriesAt : List ℕ → ℕ → Read (List ℕ)
 entriesAt s at = entriesOf (length s + 1) s 0 at
@@ -40,46 +40,46 @@ marksOf bit flags top other = noMarks
 
 unfoldable pub afterBlack : List ℕ → ℕ → Marks → First
 afterBlack s n b =
-    pick (b .good) (pick (starts (bytes "))\n") (drop (b .at) s)) (ringFirst n (b .flags) (b .top) (b .at + 3)) noFirst) noFirst
+    cond (b .good) (cond (starts (bytes "))\n") (drop (b .at) s)) (ringFirst n (b .flags) (b .top) (b .at + 3)) noFirst) noFirst
 
 unfoldable pub afterActive : List ℕ → ℕ → Marks → First
 afterActive s n a =
-    pick (a .good)
-    (pick (starts (bytes ") (black") (drop (a .at) s)) (afterBlack s n (marksOf 2 (a .flags) (a .top) (entriesAt s (a .at + 8)))) noFirst)
+    cond (a .good)
+    (cond (starts (bytes ") (black") (drop (a .at) s)) (afterBlack s n (marksOf 2 (a .flags) (a .top) (entriesAt s (a .at + 8)))) noFirst)
     noFirst
 
 -- 3. the line
 unfoldable pub blackAt : List ℕ → ℕ → List ℕ → Read (List ℕ) → Read Start
-blackAt s n active (read black q) = pick (starts (bytes "))\n") (drop q s)) (read (lists n active black) (q + 3)) other
+blackAt s n active (read black q) = cond (starts (bytes "))\n") (drop q s)) (read (lists n active black) (q + 3)) other
 blackAt s n active other = other
 
 unfoldable pub activeAt : List ℕ → ℕ → Read (List ℕ) → Read Start
-activeAt s n (read active q) = pick (starts (bytes ") (black") (drop q s)) (blackAt s n active (entriesAt s (q + 8))) other
+activeAt s n (read active q) = cond (starts (bytes ") (black") (drop q s)) (blackAt s n active (entriesAt s (q + 8))) other
 activeAt s n other = other
 
 unfoldable pub listsAt : List ℕ → ℕ → ℕ → Read Start
-listsAt s n at = pick (starts (bytes " (active") (drop at s)) (activeAt s n (entriesAt s (at + 8))) other
+listsAt s n at = cond (starts (bytes " (active") (drop at s)) (activeAt s n (entriesAt s (at + 8))) other
 
 unfoldable pub ringAfter : List ℕ → Num → Read Start
-ringAfter s (Value n p) = pick (starts (bytes ")\n") (drop p s)) (read (bare n) (p + 2)) (listsAt s n p)
+ringAfter s (Value n p) = cond (starts (bytes ")\n") (drop p s)) (read (bare n) (p + 2)) (listsAt s n p)
 ringAfter s Wrong = other
 
 unfoldable pub rootAfter : List ℕ → ℕ → Num → Read Start
-rootAfter s n (Value root q) = pick (starts (bytes "))\n") (drop q s)) (read (tree n root) (q + 3)) other
+rootAfter s n (Value root q) = cond (starts (bytes "))\n") (drop q s)) (read (tree n root) (q + 3)) other
 rootAfter s n Wrong = other
 
 unfoldable pub treeAfter : List ℕ → Num → Read Start
-treeAfter s (Value n p) = pick (starts (bytes " (root") (drop p s)) (rootAfter s n (spacedOf s (p + 6))) other
+treeAfter s (Value n p) = cond (starts (bytes " (root") (drop p s)) (rootAfter s n (spacedOf s (p + 6))) other
 treeAfter s Wrong = other
 
 unfoldable pub startAt : List ℕ → ℕ → Read Start
 startAt s at =
-    pick (starts (bytes "(ring") (drop at s)) (ringAfter s (spacedOf s (at + 5)))
-    (pick (starts (bytes "(tree") (drop at s)) (treeAfter s (spacedOf s (at + 5))) other)
+    cond (starts (bytes "(ring") (drop at s)) (ringAfter s (spacedOf s (at + 5)))
+    (cond (starts (bytes "(tree") (drop at s)) (treeAfter s (spacedOf s (at + 5))) other)
 
 -- at most 700 bytes from index `at` on
 abbrev pub fitted : ℕ → Read Start → Read Start
-fitted at (read f e) = pick (ltb (at + 700) e) other (read f e)
+fitted at (read f e) = cond (ltb (at + 700) e) other (read f e)
 fitted at other = other
 
 -- the first line that the line of s at `at` says

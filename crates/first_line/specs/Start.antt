@@ -1,11 +1,12 @@
 -- What the answer to a first line holds (document 01, "The log program"). Assumes nothing.
+use mathlib.Core.Bool.{cond}
 use mathlib.Core.List.{List, [], _∷_}
 use Prim.Native.Nat.{ℕ, _+_, max}
 use lib.ListN.{getD, set, replicate}
 use lib.Dec.{ltb}
 use lib.Bits.{bitOr}
 use Rattle.forms.specs.Form.{Form, bareRing, ringWith, treeOf}
-use Rattle.forms.specs.Read.{pick, Read, read, other}
+use Rattle.forms.specs.Read.{Read, read, other}
 use Rattle.first_line.specs.declared.Kind.the-variants.{Ring, Tree, NotAForm}
 use Rattle.first_line.specs.declared.First.{First}
 
@@ -35,7 +36,7 @@ noFirst = record { kind = NotAForm; n = 0; root = 0; flags = zeros; top = 0; end
 
 -- node k is named: "lowest bit active, next bit black"; a node past the 96 has no flag
 abbrev pub flagged : ℕ → ℕ → List ℕ → List ℕ
-flagged bit k flags = pick (ltb k 96) (set flags k (bitOr (getD flags k 0) bit)) flags
+flagged bit k flags = cond (ltb k 96) (set flags k (bitOr (getD flags k 0) bit)) flags
 
 -- the flags after the nodes of a list are named
 abbrev pub flagAll : ℕ → List ℕ → List ℕ → List ℕ

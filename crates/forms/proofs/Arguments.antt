@@ -1,6 +1,6 @@
 -- The numbers after a word, and the end of the line: found at a place exactly where their text stands. Assumes nothing.
 use mathlib.Core.Path.{_≡_, refl, sym, ap, _∙_}
-use mathlib.Core.Bool.{Bool, true, false}
+use mathlib.Core.Bool.{Bool, cond, false, true}
 use mathlib.Core.List.{List, _∷_, _++_, append-assoc}
 use Prim.Native.Nat.{ℕ, _+_, _≤_, _<_}
 use native.Mathlib.Omega.{arith}
@@ -12,20 +12,20 @@ use Rattle.decimal.specs.declared.Num.the-variants.{Value, Wrong}
 use Rattle.decimal.specs.Bytes.{bytes}
 use Rattle.decimal.specs.Text.{decimal}
 use Rattle.decimal.specs.Word.{starts}
-use Rattle.decimal.specs.Number.{digitB, pickNum, shortOf}
+use Rattle.decimal.specs.Number.{digitB, shortOf}
 use Rattle.decimal.proofs.Cases.{in-text, rest, take-head}
 use Rattle.decimal.proofs.Words.{word-sound, word-back, word-in}
 use Rattle.decimal.proofs.Decimal.{decimal-five}
 use Rattle.decimal.proofs.Numbers.{short-sound, short-found}
 use Rattle.forms.specs.declared.Args.the-variants.{Found, Bad}
 use Rattle.forms.specs.Form.{Small}
-use Rattle.forms.specs.Read.{pick, spacedOf, closedOf, oneOf, secondOf, twoOf, Count, none, one, two, argsOf}
+use Rattle.forms.specs.Read.{spacedOf, closedOf, oneOf, secondOf, twoOf, Count, none, one, two, argsOf}
 
 -- 1. a space and a number
 no-number : {A : Type 0} (n e : ℕ) → Wrong ≡ Value n e → A
 no-number n e h = let z : _≡_ {A = ℕ} 0 1 = cc in absurd (let y : ⊥ = omega arith in y)
 
-spaced-by : (s : List ℕ) (at : ℕ) (t : Bool) → eqb (getD s at 0) 32 ≡ t → (n e : ℕ) → pickNum t (shortOf s (at + 1)) Wrong ≡ Value n e
+spaced-by : (s : List ℕ) (at : ℕ) (t : Bool) → eqb (getD s at 0) 32 ≡ t → (n e : ℕ) → cond t (shortOf s (at + 1)) Wrong ≡ Value n e
     → (drop at s ≡ bytes " " ++ (decimal n ++ drop e s)) × Small n × (e ≡ at + 1 + length (decimal n))
 spaced-by s at false q n e h = no-number n e h
 spaced-by s at true q n e h =
@@ -75,7 +75,7 @@ Standing s at t e = (drop at s ≡ t ++ drop e s) × (e ≤ length s)
 no-args : {A : Type 0} (i j e : ℕ) → Bad ≡ Found i j e → A
 no-args i j e h = let z : _≡_ {A = ℕ} 0 1 = cc in absurd (let y : ⊥ = omega arith in y)
 
-closed-by : (s : List ℕ) (at i j : ℕ) (t : Bool) → starts closing (drop at s) ≡ t → (x y e : ℕ) → pick t (Found i j (at + 2)) Bad ≡ Found x y e
+closed-by : (s : List ℕ) (at i j : ℕ) (t : Bool) → starts closing (drop at s) ≡ t → (x y e : ℕ) → cond t (Found i j (at + 2)) Bad ≡ Found x y e
     → (i ≡ x) × (j ≡ y) × Standing s at closing e
 closed-by s at i j false q x y e h = no-args x y e h
 closed-by s at i j true q x y e h =

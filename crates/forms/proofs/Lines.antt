@@ -1,6 +1,6 @@
 -- No byte 10 stands inside a form but its last: a form's text is the first line of every text that begins with it. Assumes nothing.
 use mathlib.Core.Path.{_≡_, refl, sym, ap, _∙_}
-use mathlib.Core.Bool.{Bool, true, false}
+use mathlib.Core.Bool.{Bool, cond, false, true}
 use mathlib.Core.Logic.{_↔_}
 use mathlib.Core.List.{List, [], _∷_, _++_, append-assoc, append-nil}
 use Prim.Native.Nat.{ℕ, _+_, _<_}
@@ -12,7 +12,7 @@ use borrow.Author.Tests.{ne-eqb}
 use Rattle.decimal.specs.Bytes.{bytes}
 use Rattle.decimal.specs.Text.{decimal}
 use Rattle.decimal.proofs.Numbers.{Digits, decimal-digits, digit-low}
-use Rattle.forms.specs.Form.{Form, bareRing, ringWith, treeOf, send, takeOne, takeFrom, idle, probe, pass, ack, leave, announce, numbers, formText, Says, pickLine, line, SaysAt}
+use Rattle.forms.specs.Form.{Form, bareRing, ringWith, treeOf, send, takeOne, takeFrom, idle, probe, pass, ack, leave, announce, numbers, formText, Says, line, SaysAt}
 
 line-digits : (d l : List ℕ) → Digits d → line (d ++ l) ≡ d ++ line l
 unfolding line
@@ -68,7 +68,7 @@ form-line announce u = refl
 
 -- a text is its first line, and what follows
 line-by : (b : ℕ) (l : List ℕ) (t : Bool) → l ≡ line l ++ drop (length (line l)) l
-    → b ∷ l ≡ (b ∷ pickLine t [] (line l)) ++ drop (length (b ∷ pickLine t [] (line l))) (b ∷ l)
+    → b ∷ l ≡ (b ∷ cond t [] (line l)) ++ drop (length (b ∷ cond t [] (line l))) (b ∷ l)
 line-by b l true h = refl
 line-by b l false h = ap (λ (x : List ℕ). b ∷ x) h
 

@@ -1,19 +1,19 @@
 -- A table of shapes reads exactly the forms that it makes, if its words differ from each other. Assumes nothing.
 use mathlib.Core.Path.{_≡_, refl, sym, ap, _∙_, subst}
-use mathlib.Core.Bool.{Bool, true, false}
+use mathlib.Core.Bool.{_&&_, Bool, cond, false, true}
 use mathlib.Core.Logic.{_↔_}
 use mathlib.Core.List.{List, [], _∷_, _++_, append-assoc}
 use Prim.Native.Nat.{ℕ, _+_, _≤_, _<_}
 use native.Mathlib.Omega.{arith}
 use lib.ListN.{length, drop, length-append}
 use lib.Dec.{eqb}
-use Rattle.decimal.specs.Word.{both, starts}
+use Rattle.decimal.specs.Word.{starts}
 use Rattle.decimal.proofs.Cases.{both-left, both-right, advance}
 use Rattle.decimal.proofs.Words.{word-sound, word-back}
 use Rattle.forms.specs.declared.Args.{Args}
 use Rattle.forms.specs.declared.Args.the-variants.{Found, Bad}
 use Rattle.forms.specs.Form.{Form, formText, SmallForm, Valid, Says, line, SaysAt}
-use Rattle.forms.specs.Read.{pick, argsOf, Read, read, other, madeOf, Shape, readBy}
+use Rattle.forms.specs.Read.{argsOf, Read, read, other, madeOf, Shape, readBy}
 use Rattle.forms.proofs.Arguments.{argsText, SmallArgs, args-short, args-sound, args-found}
 use Rattle.forms.proofs.Lines.{form-line, form-some, line-rest}
 
@@ -21,9 +21,9 @@ use Rattle.forms.proofs.Lines.{form-line, form-some, line-rest}
 abbrev clash : List ℕ → List ℕ → Bool
 clash [] w = false
 clash (x ∷ v) [] = false
-clash (x ∷ v) (y ∷ w) = pick (eqb y x) (clash v w) true
+clash (x ∷ v) (y ∷ w) = cond (eqb y x) (clash v w) true
 
-pub clash-by : (t a b : Bool) → pick t a true ≡ true → (a ≡ true → b ≡ false) → both t b ≡ false
+pub clash-by : (t a b : Bool) → cond t a true ≡ true → (a ≡ true → b ≡ false) → (t && b) ≡ false
 clash-by true a b h f = f h
 clash-by false a b h f = refl
 
@@ -40,7 +40,7 @@ pub data In {A : Type 0} (h : Shape A) : List (Shape A) → Type 0 where
 
 abbrev clashes : {A : Type 0} → List ℕ → List (Shape A) → Bool
 clashes v [] = true
-clashes v (h ∷ hs) = both (clash v (h .word)) (clashes v hs)
+clashes v (h ∷ hs) = clash v (h .word) && clashes v hs
 
 clashes-in : {A : Type 0} (v : List ℕ) {h : Shape A} {hs : List (Shape A)} → In h hs → clashes v hs ≡ true → clash v (h .word) ≡ true
 clashes-in v {h} (here {hs}) e = both-left (clash v (h .word)) (clashes v hs) e
@@ -49,7 +49,7 @@ clashes-in v (there {g} {hs} m) e = clashes-in v m (both-right (clash v (g .word
 -- each word of the table differs from those after it
 abbrev pub apart : {A : Type 0} → List (Shape A) → Bool
 apart [] = true
-apart (h ∷ hs) = both (clashes (h .word) hs) (apart hs)
+apart (h ∷ hs) = clashes (h .word) hs && apart hs
 
 -- 2. a form that stands there is read
 pub read-found : {A : Type 0} {h : Shape A} {hs : List (Shape A)} → In h hs → apart hs ≡ true
@@ -109,7 +109,7 @@ module _ {A : Type 0} (form : A → Form) where
         valid = (p .fits i j (r .small), omega (arith, long, p .short, args-short (h .count) i j (r .small)));
       }
 
-  pick-sound : (s : List ℕ) (at : ℕ) (t : Bool) (a b : Read A) → (t ≡ true → Sound s at a) → Sound s at b → Sound s at (pick t a b)
+  pick-sound : (s : List ℕ) (at : ℕ) (t : Bool) (a b : Read A) → (t ≡ true → Sound s at a) → Sound s at b → Sound s at (cond t a b)
   pick-sound s at true a b f g = f refl
   pick-sound s at false a b f g = g
 

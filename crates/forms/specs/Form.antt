@@ -1,6 +1,6 @@
 -- The forms of a log, and the line of each (document 01, "The log program"). Assumes nothing.
 use mathlib.Core.Path.{_≡_}
-use mathlib.Core.Bool.{Bool, true, false}
+use mathlib.Core.Bool.{cond}
 use mathlib.Core.List.{List, [], _∷_, _++_}
 use Prim.Native.Nat.{ℕ, _+_, _≤_}
 use lib.ListN.{length, drop}
@@ -80,14 +80,10 @@ Valid f = SmallForm f × (length (formText f) ≤ 700)
 abbrev pub Says : List ℕ → Form → Type 0
 Says l f = (l ≡ formText f) × Valid f
 
-abbrev pub pickLine : Bool → List ℕ → List ℕ → List ℕ
-pickLine true a b = a
-pickLine false a b = b
-
 -- the first line of a text: up to its first byte 10 and with it, or the whole text where it has none
 unfoldable pub line : List ℕ → List ℕ
 line [] = []
-line (b ∷ l) = b ∷ pickLine (eqb b 10) [] (line l)
+line (b ∷ l) = b ∷ cond (eqb b 10) [] (line l)
 
 -- the line of s that begins at `at` says f, and e is just past it
 abbrev pub SaysAt : List ℕ → ℕ → Form → ℕ → Type 0

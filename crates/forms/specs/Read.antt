@@ -1,5 +1,5 @@
 -- The recognisers of steps, as the code goes. What they answer is `Exact`. Assumes nothing.
-use mathlib.Core.Bool.{Bool, true, false}
+use mathlib.Core.Bool.{cond}
 use mathlib.Core.List.{List, [], _∷_}
 use Prim.Native.Nat.{ℕ, _+_}
 use lib.ListN.{length, getD, drop}
@@ -8,7 +8,7 @@ use Rattle.decimal.specs.declared.Num.{Num}
 use Rattle.decimal.specs.declared.Num.the-variants.{Value, Wrong}
 use Rattle.decimal.specs.Bytes.{bytes}
 use Rattle.decimal.specs.Word.{starts}
-use Rattle.decimal.specs.Number.{pickNum, shortOf}
+use Rattle.decimal.specs.Number.{shortOf}
 use Rattle.forms.specs.declared.Args.{Args}
 use Rattle.forms.specs.declared.Args.the-variants.{Found, Bad}
 use Rattle.forms.specs.declared.RingStep.{RingStep}
@@ -20,17 +20,13 @@ use Rattle.forms.specs.declared.TreeStep.the-variants as tree
 use Rattle.forms.specs.declared.TreeLine.{TreeLine}
 use Rattle.forms.specs.declared.TreeLine.the-variants as treeLine
 
-abbrev pub pick : {A : Type 0} → Bool → A → A → A
-pick true a b = a
-pick false a b = b
-
 -- a space and a number of one to five digits
 unfoldable pub spacedOf : List ℕ → ℕ → Num
-spacedOf s at = pickNum (eqb (getD s at 0) 32) (shortOf s (at + 1)) Wrong
+spacedOf s at = cond (eqb (getD s at 0) 32) (shortOf s (at + 1)) Wrong
 
 -- the end of the line, after the numbers i and j
 unfoldable pub closedOf : List ℕ → ℕ → ℕ → ℕ → Args
-closedOf s at i j = pick (starts (bytes ")\n") (drop at s)) (Found i j (at + 2)) Bad
+closedOf s at i j = cond (starts (bytes ")\n") (drop at s)) (Found i j (at + 2)) Bad
 
 unfoldable pub oneOf : List ℕ → Num → Args
 oneOf s (Value i p) = closedOf s p i 0
@@ -78,16 +74,16 @@ shape w c f = record { word = w; count = c; made = f }
 unfoldable pub readBy : {A : Type 0} → List (Shape A) → List ℕ → ℕ → Read A
 readBy [] s at = other
 readBy (h ∷ hs) s at =
-    pick (starts (h .word) (drop at s)) (madeOf (h .made) (argsOf (h .count) s (at + length (h .word)))) (readBy hs s at)
+    cond (starts (h .word) (drop at s)) (madeOf (h .made) (argsOf (h .count) s (at + length (h .word)))) (readBy hs s at)
 
 -- the steps of the ring by document 01's kind numbers
 abbrev pub ringKind : ℕ → ℕ → ℕ → RingStep
 ringKind kind i j =
-    pick (eqb kind 1) (ring.Send i j)
-    (pick (eqb kind 2) (ring.Take i)
-    (pick (eqb kind 3) (ring.Idle i)
-    (pick (eqb kind 4) ring.Probe
-    (pick (eqb kind 5) (ring.Pass i)
+    cond (eqb kind 1) (ring.Send i j)
+    (cond (eqb kind 2) (ring.Take i)
+    (cond (eqb kind 3) (ring.Idle i)
+    (cond (eqb kind 4) ring.Probe
+    (cond (eqb kind 5) (ring.Pass i)
     ring.Announce))))
 
 abbrev pub ringShapes : List (Shape RingStep)
@@ -103,11 +99,11 @@ ringShapes =
 -- the steps of the tree by document 01's kind numbers
 abbrev pub treeKind : ℕ → ℕ → ℕ → TreeStep
 treeKind kind i j =
-    pick (eqb kind 1) (tree.Send i j)
-    (pick (eqb kind 2) (tree.Take i j)
-    (pick (eqb kind 3) (tree.Idle i)
-    (pick (eqb kind 4) (tree.Ack i)
-    (pick (eqb kind 5) (tree.Leave i)
+    cond (eqb kind 1) (tree.Send i j)
+    (cond (eqb kind 2) (tree.Take i j)
+    (cond (eqb kind 3) (tree.Idle i)
+    (cond (eqb kind 4) (tree.Ack i)
+    (cond (eqb kind 5) (tree.Leave i)
     tree.Announce))))
 
 abbrev pub treeShapes : List (Shape TreeStep)

@@ -8,7 +8,7 @@ use mathlib.Core.List.{List, [], _++_, _∷_, append-nil}
 use mathlib.Core.Path.{_∙_, _≡_, ap, refl, subst, sym}
 use native.Mathlib.Omega.{arith}
 use Rattle.forms.proofs.Lines.{form-line}
-use Rattle.forms.specs.Form.{Form, formText, line, pickLine}
+use Rattle.forms.specs.Form.{Form, formText, line}
 use Rattle.laws.proofs.Tests.{false-true}
 use Rattle.log_rules.specs.Pieces.{OneLine, PartLine, another, empty, hasLine, newline, preceded}
 
@@ -17,7 +17,7 @@ unfolding hasLine line
 line-ended [] h = absurd (false-true h)
 line-ended (b ∷ s) h = go (line-ended s) (eqb b 10) refl h
   where
-    go : (hasLine s ≡ true → OneLine (line s)) → (t : Bool) → eqb b 10 ≡ t → cond t true (hasLine s) ≡ true → OneLine (b ∷ pickLine t [] (line s))
+    go : (hasLine s ≡ true → OneLine (line s)) → (t : Bool) → eqb b 10 ≡ t → cond t true (hasLine s) ≡ true → OneLine (b ∷ cond t [] (line s))
     go ih true e h = subst (λ (x : ℕ). OneLine (x ∷ [])) (sym (eqb-true b 10 e)) newline
     go ih false e h = preceded (eqb-false b 10 e) (ih h)
 
