@@ -137,8 +137,8 @@ run-of [] = record { digits = []; others = []; is = refl; all = tt; end = refl }
 run-of (b ∷ l) = run-by b l (digitB b) refl (run-of l)
 
 -- 3. a number that is found stands there
-nothing : {A : Type 0} (n e : ℕ) → Wrong ≡ Value n e → A
-nothing n e h = let z : _≡_ {A = ℕ} 0 1 = cc in absurd (let y : ⊥ = omega arith in y)
+pub no-number : {A : Type 0} (n e : ℕ) → Wrong ≡ Value n e → A
+no-number n e h = let z : _≡_ {A = ℕ} 0 1 = cc in absurd (let y : ⊥ = omega arith in y)
 
 nil-of : (d : List ℕ) → length d ≡ 0 → d ≡ []
 nil-of [] h = refl
@@ -153,8 +153,8 @@ checked-by : (s : List ℕ) (at : ℕ) (d u : List ℕ) → drop at s ≡ d ++ u
     → (w i : ℕ) → w ≡ min (value 0 d) 100000 → i ≡ at + length d
     → (none led : Bool) → leb i at ≡ none → (eqb (getD s at 0) 48 && ltb (at + 1) i) ≡ led
     → (v e : ℕ) → cond none Wrong (cond led Wrong (Value w i)) ≡ Value v e → NumberAt s at v e
-checked-by s at d u t g k w i wi ii true led p q v e h = nothing v e h
-checked-by s at d u t g k w i wi ii false true p q v e h = nothing v e h
+checked-by s at d u t g k w i wi ii true led p q v e h = no-number v e h
+checked-by s at d u t g k w i wi ii false true p q v e h = no-number v e h
 checked-by s at [] u t g k w i wi ii false false p q v e h = absurd (let y : ⊥ = omega (arith, leb-false i at p) in y)
 checked-by s at (b ∷ d) u t g k w i wi ii false false p q v e h =
     let th = take-head s at b (d ++ u) t in
@@ -241,13 +241,13 @@ pub cap-below : (n most : ℕ) → most ≤ 100000 → (min n 100000 < most) ↔
 cap-below n most h = (λ k. omega arith, λ k. omega arith)
 
 kept-by : (w i v e : ℕ) (t : Bool) → ltb 99999 w ≡ t → cond t Wrong (Value w i) ≡ Value v e → (Value w i ≡ Value v e) × (v ≤ 99999)
-kept-by w i v e true p h = nothing v e h
+kept-by w i v e true p h = no-number v e h
 kept-by w i v e false p h = (h, let wv : w ≡ v = cc in omega (arith, ltb-false 99999 w p))
 
 kept-sound : (m : Num) (v e : ℕ) → keptOf m ≡ Value v e → (m ≡ Value v e) × (v ≤ 99999)
 unfolding keptOf
 kept-sound (Value w i) v e h = kept-by w i v e (ltb 99999 w) refl h
-kept-sound Wrong v e h = nothing v e h
+kept-sound Wrong v e h = no-number v e h
 
 pub short-sound : (s : List ℕ) (at n e : ℕ) → shortOf s at ≡ Value n e → ShortAt s at n e
 short-sound s at n e h =

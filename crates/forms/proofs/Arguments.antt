@@ -16,15 +16,12 @@ use Rattle.decimal.specs.Number.{digitB, shortOf}
 use Rattle.decimal.proofs.Cases.{in-text, rest, take-head}
 use Rattle.decimal.proofs.Words.{word-sound, word-back, word-in}
 use Rattle.decimal.proofs.Decimal.{decimal-five}
-use Rattle.decimal.proofs.Numbers.{short-sound, short-found}
+use Rattle.decimal.proofs.Numbers.{no-number, short-found, short-sound}
 use Rattle.forms.specs.declared.Args.the-variants.{Found, Bad}
 use Rattle.forms.specs.Form.{Small}
 use Rattle.forms.specs.Read.{spacedOf, closedOf, oneOf, secondOf, twoOf, Count, none, one, two, argsOf}
 
 -- 1. a space and a number
-no-number : {A : Type 0} (n e : ℕ) → Wrong ≡ Value n e → A
-no-number n e h = let z : _≡_ {A = ℕ} 0 1 = cc in absurd (let y : ⊥ = omega arith in y)
-
 spaced-by : (s : List ℕ) (at : ℕ) (t : Bool) → eqb (getD s at 0) 32 ≡ t → (n e : ℕ) → cond t (shortOf s (at + 1)) Wrong ≡ Value n e
     → (drop at s ≡ bytes " " ++ (decimal n ++ drop e s)) × Small n × (e ≡ at + 1 + length (decimal n))
 spaced-by s at false q n e h = no-number n e h

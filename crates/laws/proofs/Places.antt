@@ -112,6 +112,10 @@ count-le (suc n) p = go (p n) (count-le n p)
     go true h = omega arith
     go false h = omega arith
 
+pub count-next : (n : ℕ) (p : ℕ → Bool) → countTo (n + 1) p ≡ countTo n p + cond (p n) 1 0
+unfolding countTo
+count-next n p = rw add-one
+
 pub count-none : (p : ℕ → Bool) → countTo 0 p ≡ 0
 unfolding countTo
 count-none p = refl

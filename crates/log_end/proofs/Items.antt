@@ -2,13 +2,11 @@
 use Prim.Native.Nat.{_<_, _≤_, ℕ}
 use lib.Dec.{T}
 use lib.ListN.{length, length-append}
-use mathlib.Core.List.{List, _++_}
-use mathlib.Core.Path.{_∙_}
+use mathlib.Core.List.{List}
 use native.Mathlib.Omega.{arith}
 use Rattle.decimal.proofs.Decimal.{decimal-width}
-use Rattle.decimal.proofs.Put.{put-then}
 use Rattle.decimal.specs.Text.{decimal}
-use Rattle.log_text.specs.Wrote.{Wrote, item}
+use Rattle.log_text.specs.Wrote.{item}
 use Rattle.tree_text.proofs.Lengths.{length-known}
 use Rattle.tree_text.proofs.Theorems.{sound-tree}
 use Rattle.tree_text.specs.Write.{stateText}
@@ -18,10 +16,6 @@ use Rattle.tree_rules.specs.Soundness as soundness
 -- a number that a u64 holds has at most 20 digits
 pub item-short : (w : List ℕ) (n : ℕ) → length w ≤ 13 → n < 18446744073709551616 → length (item w n) ≤ 33
 item-short w n h k = omega (arith, length-append w (decimal n), decimal-width 19 n (omega arith))
-
--- a text, and what follows it
-pub wrote-then : (s t b : List ℕ) (at : ℕ) {c d : List ℕ} {r q : ℕ} → Wrote b at s r c → Wrote c r t q d → Wrote b at (s ++ t) q d
-wrote-then s t b at f g = (omega (arith, f .0, g .0, length-append s t), g .1 ∙ put-then s t b at (f .0) (f .1))
 
 -- the text of a sound tree
 pub tree-short : (t : rules.State) → soundness.Sound t → length (stateText t) ≤ 69

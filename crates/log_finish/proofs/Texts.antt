@@ -1,12 +1,11 @@
 -- What is written where a log ends. Assumes nothing.
 use Prim.Native.Nat.{_+_, _<_, _≤_, ℕ}
 use borrow.Author.Tests.{le-ltb, lt-ltb}
-use lib.ListN.{length, length-append}
+use lib.ListN.{length}
 use mathlib.Core.List.{List, [], _++_, append-nil}
 use mathlib.Core.Logic.{_⊎_, inl, inr}
 use mathlib.Core.Path.{_∙_, _≡_, ap, subst⁻¹}
 use native.Mathlib.Omega.{arith}
-use Rattle.decimal.proofs.Put.{put-then}
 use Rattle.log_held.proofs.Held.{held-some}
 use Rattle.log_held.specs.Feed.{stageOf}
 use Rattle.log_held.specs.declared.Log.{Log}
@@ -60,10 +59,6 @@ module _ (line : List ℕ) (k len : ℕ) (places : length line ≡ 700) (part : 
       (λ e. rest-done rules.fresh k)
       (λ h n. rest-full rules.fresh k h (heldOf line len) [])
       (λ h s. rest-cut rules.fresh k part s h ∙ append-nil (rules.answerText 1 (Refused NotAForm)))
-
--- two writers, one after the other
-pub wrote-both : (s t b : List ℕ) (at : ℕ) {c d : List ℕ} {r q : ℕ} → Wrote b at s r c → Wrote c r t q d → Wrote b at (s ++ t) q d
-wrote-both s t b at f g = (omega (arith, f .0, g .0, length-append s t), g .1 ∙ put-then s t b at (f .0) (f .1))
 
 pub finished : (l : Log) (line : List ℕ) {st : rules.Stage} {t : List ℕ} {r : ℕ} {out out′ : List ℕ} → stageOf l ≡ st
     → restOf st (l .lines) (heldOf line (l .len)) [] ≡ t → Wrote out 0 t r out′ → r ≤ length out → Finished l line r out out′

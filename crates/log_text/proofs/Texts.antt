@@ -16,6 +16,10 @@ use Rattle.refusal.specs.declared.Verdict.{Verdict}
 use Rattle.refusal.specs.declared.Verdict.the-variants.{Accepted, Refused}
 use Rattle.log_text.specs.Wrote.{Wrote, item}
 
+-- a text, and what follows it
+pub wrote-then : (s t b : List ℕ) (at : ℕ) {c d : List ℕ} {r q : ℕ} → Wrote b at s r c → Wrote c r t q d → Wrote b at (s ++ t) q d
+wrote-then s t b at f g = (omega (arith, f .0, g .0, length-append s t), g .1 ∙ put-then s t b at (f .0) (f .1))
+
 -- an item, and what follows it
 pub item-length : (w : List ℕ) (n : ℕ) (t : List ℕ) → length (w ++ (decimal n ++ t)) ≡ length (item w n) + length t
 item-length w n t = simp length-append (omega arith)

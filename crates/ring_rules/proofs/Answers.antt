@@ -1,9 +1,8 @@
 -- What the code of a step has to show: the tests that it passed or failed give the definition's answer. Assumes nothing.
 use Prim.Native.Nat.{ℕ}
-use mathlib.Core.Bool.{Bool, false, not, true}
-use mathlib.Core.List.{[], _∷_}
+use mathlib.Core.Bool.{Bool, false, true}
 use mathlib.Core.Path.{_≡_, ap, refl, sym}
-use Rattle.refusal.specs.Table.{_⟶_, firstOf, settle}
+use Rattle.refusal.specs.Table.{firstOf, settle, stepRows}
 use Rattle.refusal.specs.declared.Refusal.{Refusal}
 use Rattle.refusal.specs.declared.Refusal.the-variants.{Closed, RuleFails, SelfMessage, SendLimit, UnknownKind, UnknownNode, Unsound}
 use Rattle.refusal.specs.declared.Verdict.{Verdict}
@@ -25,33 +24,19 @@ unfolding answerOf
 by-verdict r k i j v e = ap (λ (w : Verdict). record { verdict = w; state = settle w (effect r k i j) r }) (sym e)
 
 -- the verdict by its seven tests, each known as far as the table is read
-first-of : Bool → Bool → Bool → Bool → Bool → Bool → Bool → Verdict
-first-of s c u o t g p =
-    firstOf
-    ((not s ⟶ Unsound)
-    ∷ (c ⟶ Closed)
-    ∷ (u ⟶ UnknownKind)
-    ∷ (o ⟶ UnknownNode)
-    ∷ (t ⟶ SelfMessage)
-    ∷ (not g ⟶ RuleFails)
-    ∷ (p ⟶ SendLimit)
-    ∷ [])
-
 by-tests :
     (r : State) (k : Kind) (i j : ℕ) (s c u o t g p : Bool)
     → soundTest r ≡ s → r .closed ≡ c → unknown k ≡ u → outside r k i j ≡ o → toSelf k i j ≡ t → guard r k i j ≡ g → sendsSpent r k ≡ p
-    → verdictOf r k i j ≡ first-of s c u o t g p
-unfolding verdictOf first-of
+    → verdictOf r k i j ≡ firstOf (stepRows s c u o t g p)
+unfolding verdictOf
 by-tests r k i j s c u o t g p e₁ e₂ e₃ e₄ e₅ e₆ e₇ =
-    λ x. first-of (e₁ x) (e₂ x) (e₃ x) (e₄ x) (e₅ x) (e₆ x) (e₇ x)
+    λ x. firstOf (stepRows (e₁ x) (e₂ x) (e₃ x) (e₄ x) (e₅ x) (e₆ x) (e₇ x))
 
 module _ (r : State) (k : Kind) (i j : ℕ) where
   pub unsound-answer : soundTest r ≡ false → refusedAs Unsound r ≡ answerOf r k i j
-  unfolding first-of
   unsound-answer s = by-verdict r k i j (Refused Unsound) (by-tests r k i j _ _ _ _ _ _ _ s refl refl refl refl refl refl)
 
   pub closed-answer : Sound r → r .closed ≡ true → refusedAs Closed r ≡ answerOf r k i j
-  unfolding first-of
   closed-answer s c = by-verdict r k i j (Refused Closed) (by-tests r k i j _ _ _ _ _ _ _ (true-sound r s) c refl refl refl refl refl)
 
   module _ (run : Open r) where
@@ -59,33 +44,27 @@ module _ (r : State) (k : Kind) (i j : ℕ) where
     sound = true-sound r (run .sound)
 
     pub kind-answer : unknown k ≡ true → refusedAs UnknownKind r ≡ answerOf r k i j
-    unfolding first-of
     kind-answer u =
         by-verdict r k i j (Refused UnknownKind) (by-tests r k i j _ _ _ _ _ _ _ sound (run .running) u refl refl refl refl)
 
     module _ (u : unknown k ≡ false) where
       pub node-answer : outside r k i j ≡ true → refusedAs UnknownNode r ≡ answerOf r k i j
-      unfolding first-of
       node-answer o =
           by-verdict r k i j (Refused UnknownNode) (by-tests r k i j _ _ _ _ _ _ _ sound (run .running) u o refl refl refl)
 
       module _ (o : outside r k i j ≡ false) where
         pub self-answer : toSelf k i j ≡ true → refusedAs SelfMessage r ≡ answerOf r k i j
-        unfolding first-of
         self-answer t =
             by-verdict r k i j (Refused SelfMessage) (by-tests r k i j _ _ _ _ _ _ _ sound (run .running) u o t refl refl)
 
         module _ (t : toSelf k i j ≡ false) where
           pub rule-answer : guard r k i j ≡ false → refusedAs RuleFails r ≡ answerOf r k i j
-          unfolding first-of
           rule-answer g =
               by-verdict r k i j (Refused RuleFails) (by-tests r k i j _ _ _ _ _ _ _ sound (run .running) u o t g refl)
 
           pub limit-answer : guard r k i j ≡ true → sendsSpent r k ≡ true → refusedAs SendLimit r ≡ answerOf r k i j
-          unfolding first-of
           limit-answer g p =
               by-verdict r k i j (Refused SendLimit) (by-tests r k i j _ _ _ _ _ _ _ sound (run .running) u o t g p)
 
           pub accepted-answer : guard r k i j ≡ true → sendsSpent r k ≡ false → acceptedAs (effect r k i j) ≡ answerOf r k i j
-          unfolding first-of
           accepted-answer g p = by-verdict r k i j Accepted (by-tests r k i j _ _ _ _ _ _ _ sound (run .running) u o t g p)

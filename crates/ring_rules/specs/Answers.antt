@@ -1,11 +1,10 @@
 -- Document 01, "Where a request is turned back": the verdict on a step and its answer, for every state and all numbers.
 use Prim.Native.Nat.{ℕ}
 use lib.Dec.{eqb, leb}
-use mathlib.Core.Bool.{Bool, _||_, false, not, true}
-use mathlib.Core.List.{List, [], _∷_}
+use mathlib.Core.Bool.{Bool, _||_, false, true}
+use mathlib.Core.List.{List}
 use Rattle.laws.specs.Places.{total}
-use Rattle.refusal.specs.Table.{_⟶_, Row, firstOf, sendLimit, settle}
-use Rattle.refusal.specs.declared.Refusal.the-variants.{Closed, RuleFails, SelfMessage, SendLimit, UnknownKind, UnknownNode, Unsound}
+use Rattle.refusal.specs.Table.{Row, firstOf, sendLimit, settle, stepRows}
 use Rattle.refusal.specs.declared.Verdict.{Verdict}
 use Rattle.ring_rules.specs.Rules.{Announce, Idle, Kind, Pass, Probe, Send, Take, Unknown, effect, guard, kindOf}
 use Rattle.ring_rules.specs.Soundness.{soundTest}
@@ -50,17 +49,10 @@ sendsSpent r Pass = false
 sendsSpent r Announce = false
 sendsSpent r Unknown = false
 
--- the table for a step, in its order
+-- the table for a step
 abbrev pub stepTable : State → Kind → ℕ → ℕ → List Row
 stepTable r k i j =
-    (not (soundTest r) ⟶ Unsound)
-    ∷ (r .closed ⟶ Closed)
-    ∷ (unknown k ⟶ UnknownKind)
-    ∷ (outside r k i j ⟶ UnknownNode)
-    ∷ (toSelf k i j ⟶ SelfMessage)
-    ∷ (not (guard r k i j) ⟶ RuleFails)
-    ∷ (sendsSpent r k ⟶ SendLimit)
-    ∷ []
+    stepRows (soundTest r) (r .closed) (unknown k) (outside r k i j) (toSelf k i j) (guard r k i j) (sendsSpent r k)
 
 unfoldable pub verdictOf : State → Kind → ℕ → ℕ → Verdict
 verdictOf r k i j = firstOf (stepTable r k i j)

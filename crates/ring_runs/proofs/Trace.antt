@@ -8,7 +8,7 @@ use mathlib.Core.List.{List, []}
 use mathlib.Core.Path.{_∙_, _≡_, ap, refl, sym}
 use native.Mathlib.Omega.{arith}
 use Rattle.laws.proofs.Columns.{set-at}
-use Rattle.laws.proofs.Tests.{false-true}
+use Rattle.laws.proofs.Tests.{false-true, or-move}
 use Rattle.ring_rules.proofs.Accepted.{Allowed, Rule, allowed, announces, idles, passes, probes, sends, takes}
 use Rattle.ring_rules.proofs.Keeps.{keeps}
 use Rattle.ring_rules.specs.Rules.{Announce, Idle, Kind, Pass, Probe, Send, Take, Unknown, effect}
@@ -116,12 +116,6 @@ run-received stop s b = omega arith
 run-received (took {s = r} {x = x} a c) s b =
     omega (arith, run-received c (sound-after r x s a) b, effect-received r s (kind x) (x .i) (x .j) (may r x a .by) b)
 run-received (kept c) s b = run-received c s b
-
-or-move : (a b c : Bool) → ((a || b) || c) ≡ (b || (a || c))
-or-move true true c = refl
-or-move true false c = refl
-or-move false true c = refl
-or-move false false c = refl
 
 pub run-closed : {r t : State} {xs acc : List Request} → Run ring r xs t acc → Sound r → t .closed ≡ (r .closed || announcedIn acc)
 run-closed (stop {s = r}) s = go (r .closed)

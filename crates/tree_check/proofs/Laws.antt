@@ -3,23 +3,18 @@ use Prim.Native.Nat.{_*_, _+_, _<_, _≤_, ℕ}
 use borrow.Author.Tests.{eq-eqb, le-leb, le-ltb, lt-leb, lt-ltb, ne-eqb}
 use lib.Dec.{eqb, leb, ltb}
 use lib.ListN.{getD}
-use mathlib.Core.Bool.{Bool, _&&_, _||_, cond, false, not, true}
+use mathlib.Core.Bool.{Bool, _&&_, _||_, false, not, true}
 use mathlib.Core.List.{List}
 use mathlib.Core.Logic.{_≢_}
 use mathlib.Core.Path.{_≡_, ap, fun-ext, refl}
-use native.Mathlib.Numerals.{add-one}
 use Rattle.laws.proofs.Places.{all-next}
-use Rattle.laws.specs.Places.{allTo, countTo}
+use Rattle.laws.specs.Places.{allTo}
 use Rattle.laws.specs.Sums.{sumTo}
 use Rattle.tree_rules.proofs.Soundness.{true-shape}
 use Rattle.tree_rules.specs.Rules.{conclusive}
 use Rattle.tree_rules.specs.Soundness.{Shape, closedTest, limitTest, pairTest, placeTest, rangeTest, soundTest}
 use Rattle.refusal.specs.Table.{sendLimit}
 use Rattle.tree_rules.specs.State.{State, engagerAt, unackedAt}
-
-pub count-next : (n : ℕ) (p : ℕ → Bool) → countTo (n + 1) p ≡ countTo n p + cond (p n) 1 0
-unfolding countTo
-count-next n p = rw add-one
 
 -- ---- pairs
 

@@ -1,9 +1,8 @@
 -- What the code of a step has to show: the tests that it passed or failed give the definition's answer. Assumes nothing.
 use Prim.Native.Nat.{ℕ}
-use mathlib.Core.Bool.{Bool, false, not, true}
-use mathlib.Core.List.{[], _∷_}
+use mathlib.Core.Bool.{Bool, false, true}
 use mathlib.Core.Path.{_≡_, ap, refl, sym}
-use Rattle.refusal.specs.Table.{_⟶_, firstOf, settle}
+use Rattle.refusal.specs.Table.{firstOf, settle, stepRows}
 use Rattle.refusal.specs.declared.Refusal.{Refusal}
 use Rattle.refusal.specs.declared.Refusal.the-variants.{Closed, RuleFails, SelfMessage, SendLimit, UnknownKind, UnknownNode, Unsound}
 use Rattle.refusal.specs.declared.Verdict.{Verdict}
@@ -25,33 +24,19 @@ unfolding answerOf
 by-verdict t k i j v e = ap (λ (w : Verdict). record { verdict = w; state = settle w (effect t k i j) t }) (sym e)
 
 -- the verdict by its seven tests, each known as far as the table is read
-first-of : Bool → Bool → Bool → Bool → Bool → Bool → Bool → Verdict
-first-of s c u o v g p =
-    firstOf
-    ((not s ⟶ Unsound)
-    ∷ (c ⟶ Closed)
-    ∷ (u ⟶ UnknownKind)
-    ∷ (o ⟶ UnknownNode)
-    ∷ (v ⟶ SelfMessage)
-    ∷ (not g ⟶ RuleFails)
-    ∷ (p ⟶ SendLimit)
-    ∷ [])
-
 by-tests :
     (t : State) (k : Kind) (i j : ℕ) (s c u o v g p : Bool)
     → soundTest t ≡ s → t .closed ≡ c → unknown k ≡ u → outside t k i j ≡ o → toSelf k i j ≡ v → guard t k i j ≡ g → sendsSpent t k ≡ p
-    → verdictOf t k i j ≡ first-of s c u o v g p
-unfolding verdictOf first-of
+    → verdictOf t k i j ≡ firstOf (stepRows s c u o v g p)
+unfolding verdictOf
 by-tests t k i j s c u o v g p e₁ e₂ e₃ e₄ e₅ e₆ e₇ =
-    λ x. first-of (e₁ x) (e₂ x) (e₃ x) (e₄ x) (e₅ x) (e₆ x) (e₇ x)
+    λ x. firstOf (stepRows (e₁ x) (e₂ x) (e₃ x) (e₄ x) (e₅ x) (e₆ x) (e₇ x))
 
 module _ (t : State) (k : Kind) (i j : ℕ) where
   pub unsound-answer : soundTest t ≡ false → refusedAs Unsound t ≡ answerOf t k i j
-  unfolding first-of
   unsound-answer s = by-verdict t k i j (Refused Unsound) (by-tests t k i j _ _ _ _ _ _ _ s refl refl refl refl refl refl)
 
   pub closed-answer : Sound t → t .closed ≡ true → refusedAs Closed t ≡ answerOf t k i j
-  unfolding first-of
   closed-answer s c = by-verdict t k i j (Refused Closed) (by-tests t k i j _ _ _ _ _ _ _ (true-sound t s) c refl refl refl refl refl)
 
   module _ (run : Open t) where
@@ -59,33 +44,27 @@ module _ (t : State) (k : Kind) (i j : ℕ) where
     sound = true-sound t (run .sound)
 
     pub kind-answer : unknown k ≡ true → refusedAs UnknownKind t ≡ answerOf t k i j
-    unfolding first-of
     kind-answer u =
         by-verdict t k i j (Refused UnknownKind) (by-tests t k i j _ _ _ _ _ _ _ sound (run .running) u refl refl refl refl)
 
     module _ (u : unknown k ≡ false) where
       pub node-answer : outside t k i j ≡ true → refusedAs UnknownNode t ≡ answerOf t k i j
-      unfolding first-of
       node-answer o =
           by-verdict t k i j (Refused UnknownNode) (by-tests t k i j _ _ _ _ _ _ _ sound (run .running) u o refl refl refl)
 
       module _ (o : outside t k i j ≡ false) where
         pub self-answer : toSelf k i j ≡ true → refusedAs SelfMessage t ≡ answerOf t k i j
-        unfolding first-of
         self-answer v =
             by-verdict t k i j (Refused SelfMessage) (by-tests t k i j _ _ _ _ _ _ _ sound (run .running) u o v refl refl)
 
         module _ (v : toSelf k i j ≡ false) where
           pub rule-answer : guard t k i j ≡ false → refusedAs RuleFails t ≡ answerOf t k i j
-          unfolding first-of
           rule-answer g =
               by-verdict t k i j (Refused RuleFails) (by-tests t k i j _ _ _ _ _ _ _ sound (run .running) u o v g refl)
 
           pub limit-answer : guard t k i j ≡ true → sendsSpent t k ≡ true → refusedAs SendLimit t ≡ answerOf t k i j
-          unfolding first-of
           limit-answer g p =
               by-verdict t k i j (Refused SendLimit) (by-tests t k i j _ _ _ _ _ _ _ sound (run .running) u o v g p)
 
           pub accepted-answer : guard t k i j ≡ true → sendsSpent t k ≡ false → acceptedAs (effect t k i j) ≡ answerOf t k i j
-          unfolding first-of
           accepted-answer g p = by-verdict t k i j Accepted (by-tests t k i j _ _ _ _ _ _ _ sound (run .running) u o v g p)

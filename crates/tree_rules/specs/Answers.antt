@@ -1,10 +1,9 @@
 -- Document 01, "Where a request is turned back": the verdict on a step and its answer, for every state and all numbers.
 use Prim.Native.Nat.{ℕ}
 use lib.Dec.{eqb, leb}
-use mathlib.Core.Bool.{Bool, _||_, false, not, true}
-use mathlib.Core.List.{List, [], _∷_}
-use Rattle.refusal.specs.Table.{_⟶_, Row, firstOf, sendLimit, settle}
-use Rattle.refusal.specs.declared.Refusal.the-variants.{Closed, RuleFails, SelfMessage, SendLimit, UnknownKind, UnknownNode, Unsound}
+use mathlib.Core.Bool.{Bool, _||_, false, true}
+use mathlib.Core.List.{List}
+use Rattle.refusal.specs.Table.{Row, firstOf, sendLimit, settle, stepRows}
 use Rattle.refusal.specs.declared.Verdict.{Verdict}
 use Rattle.tree_rules.specs.Rules.{Ack, Announce, Idle, Kind, Leave, Send, Take, Unknown, effect, guard, kindOf}
 use Rattle.tree_rules.specs.Soundness.{soundTest}
@@ -49,17 +48,10 @@ sendsSpent t Leave = false
 sendsSpent t Announce = false
 sendsSpent t Unknown = false
 
--- the table for a step, in its order
+-- the table for a step
 abbrev pub stepTable : State → Kind → ℕ → ℕ → List Row
 stepTable t k i j =
-    (not (soundTest t) ⟶ Unsound)
-    ∷ (t .closed ⟶ Closed)
-    ∷ (unknown k ⟶ UnknownKind)
-    ∷ (outside t k i j ⟶ UnknownNode)
-    ∷ (toSelf k i j ⟶ SelfMessage)
-    ∷ (not (guard t k i j) ⟶ RuleFails)
-    ∷ (sendsSpent t k ⟶ SendLimit)
-    ∷ []
+    stepRows (soundTest t) (t .closed) (unknown k) (outside t k i j) (toSelf k i j) (guard t k i j) (sendsSpent t k)
 
 unfoldable pub verdictOf : State → Kind → ℕ → ℕ → Verdict
 verdictOf t k i j = firstOf (stepTable t k i j)

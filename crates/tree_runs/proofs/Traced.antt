@@ -6,7 +6,7 @@ use mathlib.Core.List.{List, [], _∷_}
 use mathlib.Core.Path.{_∙_, _≡_, ap, fun-ext, refl, sym}
 use native.Mathlib.Omega.{arith}
 use Rattle.laws.proofs.Places.{count-same}
-use Rattle.laws.proofs.Tests.{false-true}
+use Rattle.laws.proofs.Tests.{false-true, or-move}
 use Rattle.runs.proofs.Runs.{Run, kept, run-of, stop, took}
 use Rattle.runs.specs.Runs.{Accepts, Request, acceptedOf, runOf}
 use Rattle.tree_rules.proofs.Accepted.{Allowed, allowed}
@@ -52,11 +52,6 @@ traced-stop t s =
     keep : (a : Bool) → a ≡ (a || false)
     keep true = refl
     keep false = refl
-
-or-move : (a b c : Bool) → ((a || b) || c) ≡ (b || (a || c))
-or-move true true c = refl
-or-move true false c = refl
-or-move false b c = refl
 
 traced-more : (t : State) (x : Request) → Accepts tree t x → (acc : List Request) (s : State) → Traced (tree .effect t x) acc s → Traced t (x ∷ acc) s
 traced-more t x a acc s c =

@@ -5,19 +5,13 @@ use mathlib.Core.List.{List, _++_}
 use native.Mathlib.Omega.{arith}
 use Rattle.decimal.specs.Bytes.{bytes}
 use Rattle.decimal.specs.Text.{decimal}
-use Rattle.log_text.proofs.Texts.{item-length, item-wrote}
+use Rattle.log_text.proofs.Texts.{item-length, item-wrote, wrote-then}
 use Rattle.tree_rules.specs.State.{engaged}
 use Rattle.tree_text.specs.Write.{stateText}
-use Rattle.log_end.proofs.Items.{item-short, tree-short, wrote-then}
+use Rattle.log_end.proofs.Items.{item-short, tree-short}
 use Rattle.log_end.proofs.put_tree_end.Statement.{statement}
 use Rattle.tree.specs.View as treeView
 use Rattle.log_end.proofs.put_tree_end.Tie as tie
-use Rattle.log_end.proofs.put_tree_end.Reads as reads
-use Rattle.log_end.proofs.put_tree_end.Lts as lts
-use Rattle.decimal.proofs.put_word.Reads as put-word-reads
-use Rattle.log_text.proofs.put_item.Reads as put-item-reads
-use Rattle.tree.proofs.Tree.acks_in_transit.Reads as acks-in-transit-reads
-use Rattle.tree_writer.proofs.put_tree.Reads as put-tree-reads
 
 acks-in-transit-requires : tie.Need-acks-in-transit-requires
 acks-in-transit-requires c κs = search needs

@@ -6,22 +6,16 @@ use Rattle.decimal.specs.Text.{put}
 use Rattle.log_first.specs.Open.{SoundStage, stageBy}
 use Rattle.log_rules.proofs.Cuts.{rest-over}
 use Rattle.log_rules.specs.Pieces.{heldOf}
-use Rattle.log_text.proofs.Texts.{answer-short}
+use Rattle.log_text.proofs.Texts.{answer-short, wrote-then}
 use Rattle.refusal.specs.declared.Refusal.the-variants.{NotAForm}
 use Rattle.refusal.specs.declared.Verdict.the-variants.{Refused}
-use Rattle.log_finish.proofs.Texts.{finished, fresh-end, run-end, wrote-both}
+use Rattle.log_finish.proofs.Texts.{finished, fresh-end, run-end}
 use Rattle.log_finish.proofs.finish.Statement.{statement}
 use Rattle.log_first.specs.declared.Stage as code
 use Rattle.log_rules.specs.Answers as rules
 use Rattle.ring.specs.View as ringView
 use Rattle.tree.specs.View as treeView
 use Rattle.log_finish.proofs.finish.Tie as tie
-use Rattle.log_finish.proofs.finish.Reads as reads
-use Rattle.log_finish.proofs.finish.Lts as lts
-use Rattle.log_end.proofs.put_ring_end.Reads as put-ring-end-reads
-use Rattle.log_end.proofs.put_tree_end.Reads as put-tree-end-reads
-use Rattle.log_finish.proofs.put_cut.Reads as put-cut-reads
-use Rattle.log_text.proofs.put_answer.Reads as put-answer-reads
 
 enum-told : tie.Need-enum-told
 enum-told c = search needs
@@ -68,7 +62,7 @@ returns-2 c = let p = c .before .before .before .before .before .before .before 
     let u = c .before .before .before .before .before .before .before .put-cut .ensures in
     let v = c .before .before .put-ring-end .ensures in
     finished l line e (run-end line (l .lines) (l .len) (p .0 .places) (p .0 .part) (rules.onRing (ringView.state (l .ring)) (l .moves)) refl)
-    (wrote-both _ _ (c .before .before .before .before .before .before .before .before .before .before .before .before .before .args .out .now) 0 (u .0) (v .0)) (omega (arith, p .1, u .1, v .0 .0, v .1))
+    (wrote-then _ _ (c .before .before .before .before .before .before .before .before .before .before .before .before .before .args .out .now) 0 (u .0) (v .0)) (omega (arith, p .1, u .1, v .0 .0, v .1))
 
 same-length-3 : tie.Need-same-length-3
 same-length-3 c = search needs
@@ -79,7 +73,7 @@ returns-3 c = let p = c .before .before .before .before .before .before .before 
     let u = c .before .before .before .before .before .before .before .put-cut2 .ensures in
     let v = c .before .before .put-tree-end .ensures in
     finished l line e (run-end line (l .lines) (l .len) (p .0 .places) (p .0 .part) (rules.onTree (treeView.state (l .tree))) refl)
-    (wrote-both _ _ (c .before .before .before .before .before .before .before .before .before .before .before .before .before .args .out .now) 0 (u .0) (v .0)) (omega (arith, p .1, u .1, v .0 .0, v .1))
+    (wrote-then _ _ (c .before .before .before .before .before .before .before .before .before .before .before .before .before .args .out .now) 0 (u .0) (v .0)) (omega (arith, p .1, u .1, v .0 .0, v .1))
 
 returns-4 : tie.Need-returns-4
 unfolding put

@@ -7,7 +7,7 @@ use native.Mathlib.Omega.{arith}
 use Rattle.laws.proofs.Places.{count-none}
 use Rattle.laws.specs.Places.{countTo}
 use Rattle.tree_rules.specs.State.{children, isChild}
-use Rattle.tree_check.proofs.Laws.{count-next}
+use Rattle.laws.proofs.Places.{count-next}
 use Rattle.tree_check.proofs.children_of.Statement.{statement}
 use Rattle.tree_check.proofs.children_of.Tie as tie
 
