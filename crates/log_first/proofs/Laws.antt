@@ -84,7 +84,7 @@ module _ (f : First) where
     pub good-ring : f .top ≤ f .n → rules.firstTold line.Ring f ≡ rules.opened Accepted first-ring
     good-ring h = rw (lt-ltb 0 (f .n) lo, le-leb (f .n) 96 hi, le-ltb (f .n) (f .top) h)
 
-    flags-fit : Flags (f .flags) → ringLaws.Fits (f .n) (take (f .n) (f .flags))
+    pub flags-fit : Flags (f .flags) → ringLaws.Fits (f .n) (take (f .n) (f .flags))
     flags-fit g = record {
       some-node = lo;
       nodes = hi;

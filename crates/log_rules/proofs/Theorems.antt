@@ -21,10 +21,10 @@ use Rattle.log_rules.specs.Pieces as pieces
 use Rattle.log_rules.specs.Theorems as lines
 
 -- a line that says a form is one line, and so is its first line
-says-first : (f : Form) (l : List ℕ) → Says l f → Says (line l) f
+pub says-first : (f : Form) (l : List ℕ) → Says l f → Says (line l) f
 says-first f l s = (ap line (s .0) ∙ ended-itself (form-ended f), s .1)
 
-says-itself : (f : Form) (l : List ℕ) → OneLine l → Says (line l) f → Says l f
+pub says-itself : (f : Form) (l : List ℕ) → OneLine l → Says (line l) f → Says l f
 says-itself f l o s = (sym (ended-itself o) ∙ s .0, s .1)
 
 seen-told : (f : Start) (e : ℕ) → firstTold (seen f e .kind) (seen f e) ≡ firstTold (seen f 0 .kind) (seen f 0)

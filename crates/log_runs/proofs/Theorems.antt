@@ -1,0 +1,249 @@
+-- The statement of specs/Theorems.antt, proved. Assumes nothing.
+use Prim.Native.Nat.{_+_, ℕ}
+use borrow.Author.Tests.{leb-true, ltb-true, not-false}
+use lib.ListN.{getD, length, take}
+use mathlib.Core.Bool.{Bool, _&&_, cond, false, true}
+use mathlib.Core.List.{List, [], _++_, _∷_, append-assoc}
+use mathlib.Core.Path.{_∙_, _≡_, ap, refl, sym}
+use native.Mathlib.Nat.{add-zero}
+use native.Mathlib.Omega.{arith}
+use Rattle.first_line.specs.Read.{firstAt}
+use Rattle.first_line.specs.Start.{seenOf}
+use Rattle.first_line.specs.declared.First.{First}
+use Rattle.first_line.specs.declared.Kind.{Kind}
+use Rattle.forms.proofs.Steps.{ring-exact, ring-not, tree-exact, tree-not}
+use Rattle.forms.specs.Form.{Says, announce, ringForm, treeForm}
+use Rattle.forms.specs.Read.{ringAt, treeAt}
+use Rattle.forms.specs.declared.RingLine.{RingLine}
+use Rattle.forms.specs.declared.RingStep.{RingStep}
+use Rattle.forms.specs.declared.TreeLine.{TreeLine}
+use Rattle.laws.proofs.Tests.{both}
+use Rattle.log_first.proofs.Laws.{flags-fit, seen-flags}
+use Rattle.log_rules.proofs.Theorems.{lines-say, says-first, says-itself}
+use Rattle.log_rules.specs.Answers.{Stage, Told, answerText, firstTold, fresh, isMove, lineTold, onRing, onTree, ringRequest, ringTable, ringTold, treeRequest, treeTold}
+use Rattle.log_rules.specs.Output.{linesTold}
+use Rattle.log_rules.specs.Theorems.{LinesOf}
+use Rattle.refusal.proofs.Table.{none-holds, not-both}
+use Rattle.refusal.specs.Table.{NoneHolds, also, firstOf, isAccepted, settle}
+use Rattle.refusal.specs.declared.Refusal.{Refusal}
+use Rattle.refusal.specs.declared.Refusal.the-variants.{NotAForm}
+use Rattle.refusal.specs.declared.Verdict.{Verdict}
+use Rattle.refusal.specs.declared.Verdict.the-variants.{Accepted, Refused}
+use Rattle.runs.specs.Runs.{Request, acceptedOf, next, runOf}
+use Rattle.log_runs.specs.Says.{BegunOpen, RingSays, TreeSays, moveBy, movesIn, printed, stageAfter}
+use Rattle.log_runs.specs.Theorems.{LogRuns, Ok}
+use Rattle.log_runs.specs.Says as says
+use Rattle.log_rules.specs.Theorems as lines
+use Rattle.first_line.specs.declared.Kind.the-variants as line
+use Rattle.forms.specs.declared.RingLine.the-variants as ringLine
+use Rattle.forms.specs.declared.RingStep.the-variants as ringStep
+use Rattle.forms.specs.declared.TreeLine.the-variants as treeLine
+use Rattle.forms.specs.declared.TreeStep.the-variants as treeStep
+use Rattle.ring_rules.proofs.Start as ringStart
+use Rattle.ring_rules.specs.Answers as ringAnswers
+use Rattle.ring_rules.specs.Soundness as ringSound
+use Rattle.ring_rules.specs.Start as ringFirst
+use Rattle.ring_rules.specs.State as ringState
+use Rattle.ring_runs.proofs.WholeRun as ringRuns
+use Rattle.ring_runs.specs.Counts as ringCounts
+use Rattle.tree_rules.proofs.Start as treeStart
+use Rattle.tree_rules.specs.Answers as treeAnswers
+use Rattle.tree_rules.specs.Soundness as treeSound
+use Rattle.tree_rules.specs.Start as treeFirst
+use Rattle.tree_rules.specs.State as treeState
+use Rattle.tree_runs.proofs.WholeRun as treeRuns
+use Rattle.tree_runs.specs.Counts as treeCounts
+
+-- ---- "(ok" and "(no" are told apart by their second letter
+
+not-ok : (k : ℕ) (e : Refusal) → answerText k (Refused e) ≡ answerText k Accepted → ⊥
+not-ok k e p = let z : _≡_ {A = ℕ} 110 111 = ap (λ (l : List ℕ). getD l 1 0) p in let y : ⊥ = omega arith in y
+
+ok-accepted : (k : ℕ) (v : Verdict) → answerText k v ≡ answerText k Accepted → v ≡ Accepted
+ok-accepted k Accepted p = refl
+ok-accepted k (Refused e) p = absurd (not-ok k e p)
+
+-- ---- the output, line by line
+
+output :
+    (s : Stage) (k : ℕ) (ls : List (List ℕ)) (l : List ℕ) (rest : List (List ℕ))
+    → linesTold s k (ls ++ (l ∷ rest))
+    ≡ printed s k ls ++ (lineTold (stageAfter s k ls) (k + length ls) l .text ++ linesTold (lineTold (stageAfter s k ls) (k + length ls) l .stage) (k + length ls + 1) rest)
+unfolding linesTold printed stageAfter
+output s k [] l rest = rw (add-zero k)
+output s k (x ∷ ls) l rest =
+    let t = lineTold s k x in
+    let after : ℕ → List ℕ = λ n. lineTold (stageAfter (t .stage) (k + 1) ls) n l .text ++ linesTold (lineTold (stageAfter (t .stage) (k + 1) ls) n l .stage) (n + 1) rest in
+    let e : k + 1 + length ls ≡ k + length (x ∷ ls) = omega arith in
+    ap (λ (w : List ℕ). t .text ++ w) (output (t .stage) (k + 1) ls l rest)
+    ∙ (sym (append-assoc (t .text) (printed (t .stage) (k + 1) ls) (after (k + 1 + length ls)))
+    ∙ ap (λ (n : ℕ). (t .text ++ printed (t .stage) (k + 1) ls) ++ after n) e)
+
+-- ---- what the lines say
+
+ring-asks : {s : List ℕ} {ls : List (List ℕ)} → LinesOf s ls → (xs : List Request) × RingSays ls xs
+ring-asks lines.no-line = ([], says.RingSays.no-line)
+ring-asks (lines.last u h) = ([], says.RingSays.cut u says.RingSays.no-line)
+ring-asks (lines.another {l} {ls = ls} o c) = go (ringAt l 0) refl (ring-asks c)
+  where
+    go : (x : RingLine) → ringAt l 0 ≡ x → (xs : List Request) × RingSays ls xs → (xs : List Request) × RingSays (l ∷ ls) xs
+    go (ringLine.Step f e) p w = (
+      ringRequest f ∷ w .0,
+      says.RingSays.step f (says-itself (ringForm f) l o (ring-exact l 0 f e .0 p .0)) (w .1),
+    )
+    go ringLine.NotAForm p w = (w .0, says.RingSays.other o (λ f s. ring-not l 0 .0 p f (says-first (ringForm f) l s)) (w .1))
+
+tree-asks : {s : List ℕ} {ls : List (List ℕ)} → LinesOf s ls → (xs : List Request) × TreeSays ls xs
+tree-asks lines.no-line = ([], says.TreeSays.no-line)
+tree-asks (lines.last u h) = ([], says.TreeSays.cut u says.TreeSays.no-line)
+tree-asks (lines.another {l} {ls = ls} o c) = go (treeAt l 0) refl (tree-asks c)
+  where
+    go : (x : TreeLine) → treeAt l 0 ≡ x → (xs : List Request) × TreeSays ls xs → (xs : List Request) × TreeSays (l ∷ ls) xs
+    go (treeLine.Step f e) p w = (
+      treeRequest f ∷ w .0,
+      says.TreeSays.step f (says-itself (treeForm f) l o (tree-exact l 0 f e .0 p .0)) (w .1),
+    )
+    go treeLine.NotAForm p w = (w .0, says.TreeSays.other o (λ f s. tree-not l 0 .0 p f (says-first (treeForm f) l s)) (w .1))
+
+-- ---- what they lead to
+
+move-is : (f : RingStep) → cond (isMove f && true) 1 0 ≡ moveBy (ringCounts.kind (ringRequest f))
+move-is (ringStep.Send i j) = refl
+move-is (ringStep.Take i) = refl
+move-is (ringStep.Idle i) = refl
+move-is ringStep.Probe = refl
+move-is (ringStep.Pass i) = refl
+move-is ringStep.Announce = refl
+
+no-move : (b : Bool) → _≡_ {A = ℕ} (cond (b && false) 1 0) 0
+no-move true = refl
+no-move false = refl
+
+moved :
+    (f : RingStep) (v : Verdict) (acc : List Request) (m : ℕ)
+    → m + cond (isMove f && isAccepted v) 1 0 + movesIn acc ≡ m + movesIn (settle v (ringRequest f ∷ acc) acc)
+unfolding movesIn
+moved f Accepted acc m = omega (arith, move-is f)
+moved f (Refused e) acc m = omega (arith, no-move (isMove f))
+
+ring-state :
+    (r : ringState.State) (m k : ℕ) {ls : List (List ℕ)} {xs : List Request} → RingSays ls xs
+    → stageAfter (onRing r m) k ls ≡ onRing (runOf ringCounts.ring r xs) (m + movesIn (acceptedOf ringCounts.ring r xs))
+unfolding stageAfter runOf acceptedOf movesIn ringAnswers.answerOf
+ring-state r m k says.RingSays.no-line = rw (add-zero m)
+ring-state r m k (says.RingSays.step {l} {ls} {xs} f s c) =
+    let x = ringRequest f in
+    let t = next ringCounts.ring r x in
+    let v = ringCounts.ring .verdict r x in
+    ap (λ (y : Told). stageAfter (y .stage) (k + 1) ls) (lines-say .ring-step r m k l f s)
+    ∙ (ring-state t (m + cond (isMove f && isAccepted v) 1 0) (k + 1) c
+    ∙ ap (onRing (runOf ringCounts.ring t xs)) (moved f v (acceptedOf ringCounts.ring t xs) m))
+ring-state r m k (says.RingSays.other {l} {ls} o h c) =
+    ap (λ (y : Told). stageAfter (y .stage) (k + 1) ls) (lines-say .ring-other r m k l o h) ∙ ring-state r m (k + 1) c
+ring-state r m k (says.RingSays.cut {l} {ls} u c) =
+    ap (λ (y : Told). stageAfter (y .stage) (k + 1) ls) (lines-say .unended (onRing r m) k l u) ∙ ring-state r m (k + 1) c
+
+tree-state :
+    (t : treeState.State) (k : ℕ) {ls : List (List ℕ)} {xs : List Request} → TreeSays ls xs
+    → stageAfter (onTree t) k ls ≡ onTree (runOf treeCounts.tree t xs)
+unfolding stageAfter runOf treeAnswers.answerOf
+tree-state t k says.TreeSays.no-line = refl
+tree-state t k (says.TreeSays.step {l} {ls} f s c) =
+    ap (λ (y : Told). stageAfter (y .stage) (k + 1) ls) (lines-say .tree-step t k l f s)
+    ∙ tree-state (next treeCounts.tree t (treeRequest f)) (k + 1) c
+tree-state t k (says.TreeSays.other {l} {ls} o h c) =
+    ap (λ (y : Told). stageAfter (y .stage) (k + 1) ls) (lines-say .tree-other t k l o h) ∙ tree-state t (k + 1) c
+tree-state t k (says.TreeSays.cut {l} {ls} u c) =
+    ap (λ (y : Told). stageAfter (y .stage) (k + 1) ls) (lines-say .unended (onTree t) k l u) ∙ tree-state t (k + 1) c
+
+-- ---- an announcement that is printed
+
+ring-quiet :
+    (r : ringState.State) → ringSound.Open r → (m k j : ℕ) {ls : List (List ℕ)} {xs : List Request} → RingSays ls xs
+    → (l : List ℕ) → Says l announce → Ok (stageAfter (onRing r m) k ls) j l → ringCounts.QuietBy r xs
+unfolding ringAnswers.answerOf
+ring-quiet r running m k j {xs = xs} c l s ok =
+    let e = lines-say .ring-step (runOf ringCounts.ring r xs) (m + movesIn (acceptedOf ringCounts.ring r xs)) j l ringStep.Announce s in
+    ringRuns.whole-runs .point r running xs .quiet (ringRequest ringStep.Announce) refl
+    (ok-accepted j _ (sym (ap (λ (y : Told). y .text) e) ∙ (sym (ap (λ (q : Stage). lineTold q j l .text) (ring-state r m k c)) ∙ ok)))
+
+tree-quiet :
+    (t : treeState.State) → treeSound.Open t → (k j : ℕ) {ls : List (List ℕ)} {xs : List Request} → TreeSays ls xs
+    → (l : List ℕ) → Says l announce → Ok (stageAfter (onTree t) k ls) j l → treeCounts.QuietBy t xs
+unfolding treeAnswers.answerOf
+tree-quiet t running k j {xs = xs} c l s ok =
+    let e = lines-say .tree-step (runOf treeCounts.tree t xs) j l treeStep.Announce s in
+    treeRuns.whole-runs .point t running xs .quiet (treeRequest treeStep.Announce) refl
+    (ok-accepted j _ (sym (ap (λ (y : Told). y .text) e) ∙ (sym (ap (λ (q : Stage). lineTold q j l .text) (tree-state t k c)) ∙ ok)))
+
+-- a request that is refused whatever it is
+none-taken : (v : Verdict) (x : Request) → settle v (x ∷ []) [] ≡ [] → v ≡ Accepted → ⊥
+none-taken Accepted x p q = let z : _≡_ {A = ℕ} 1 0 = ap length p in let y : ⊥ = omega arith in y
+none-taken (Refused e) x p q = not-both q refl
+
+ring-last :
+    (r : ringState.State) → ringSound.Open r → (m k j : ℕ) {ls : List (List ℕ)} {xs : List Request} → RingSays ls xs
+    → ringCounts.Announced r xs → (l : List ℕ) → Ok (stageAfter (onRing r m) k ls) j l → ⊥
+unfolding lineTold acceptedOf ringAnswers.answerOf
+ring-last r running m k j {xs = xs} c a l ok =
+    go (ringAt l 0) (sym (ap (λ (q : Stage). lineTold q j l .text) (ring-state r m k c)) ∙ ok)
+  where
+    go :
+        (x : RingLine)
+        → ringTold (runOf ringCounts.ring r xs) (m + movesIn (acceptedOf ringCounts.ring r xs)) j x .text ≡ answerText j Accepted → ⊥
+    go (ringLine.Step f e) p =
+        none-taken (ringCounts.ring .verdict (runOf ringCounts.ring r xs) (ringRequest f)) (ringRequest f) (ringRuns.whole-runs .point r running xs .last a (ringRequest f ∷ [])) (ok-accepted j (ringCounts.ring .verdict (runOf ringCounts.ring r xs) (ringRequest f)) p)
+    go ringLine.NotAForm p = not-ok j NotAForm p
+
+tree-last :
+    (t : treeState.State) → treeSound.Open t → (k j : ℕ) {ls : List (List ℕ)} {xs : List Request} → TreeSays ls xs
+    → treeCounts.Announced t xs → (l : List ℕ) → Ok (stageAfter (onTree t) k ls) j l → ⊥
+unfolding lineTold acceptedOf treeAnswers.answerOf
+tree-last t running k j {xs = xs} c a l ok =
+    go (treeAt l 0) (sym (ap (λ (q : Stage). lineTold q j l .text) (tree-state t k c)) ∙ ok)
+  where
+    go : (x : TreeLine) → treeTold (runOf treeCounts.tree t xs) j x .text ≡ answerText j Accepted → ⊥
+    go (treeLine.Step f e) p =
+        none-taken (treeCounts.tree .verdict (runOf treeCounts.tree t xs) (treeRequest f)) (treeRequest f) (treeRuns.whole-runs .point t running xs .last a (treeRequest f ∷ [])) (ok-accepted j (treeCounts.tree .verdict (runOf treeCounts.tree t xs) (treeRequest f)) p)
+    go treeLine.NotAForm p = not-ok j NotAForm p
+
+-- ---- the first line
+
+first : (l : List ℕ) → BegunOpen (lineTold fresh 1 l .stage)
+unfolding lineTold
+first l = go (seenOf (firstAt l 0) .kind)
+  where
+    f : First
+    f = seenOf (firstAt l 0)
+
+    ring-open : NoneHolds (ringTable f) → ringSound.Open (ringFirst.firstState (f .n) (take (f .n) (f .flags)))
+    ring-open (also p rest) =
+        let w = both _ _ (not-false _ p) in
+        ringStart.first-open _ _ (flags-fit f (ltb-true _ _ (w .0)) (leb-true _ _ (w .1)) (seen-flags l 0))
+
+    ring : (v : Verdict) → firstOf (ringTable f) ≡ v → BegunOpen (firstTold line.Ring f .stage)
+    ring Accepted e = rw e (ring-open (none-holds (ringTable f) e), refl)
+    ring (Refused x) e = rw e tt
+
+    tree : (v : Verdict) → treeFirst.startVerdict (f .n) (f .root) ≡ v → BegunOpen (firstTold line.Tree f .stage)
+    tree Accepted e = rw e (treeStart.first-open (f .n) (f .root) (treeStart.fits (f .n) (f .root) e))
+    tree (Refused x) e = rw e tt
+
+    go : (k : Kind) → BegunOpen (firstTold k f .stage)
+    go line.Ring = ring (firstOf (ringTable f)) refl
+    go line.Tree = tree (treeFirst.startVerdict (f .n) (f .root)) refl
+    go line.NotAForm = tt
+
+pub log-runs : LogRuns
+log-runs = record {
+  output = output;
+  first = first;
+  ring-asks = ring-asks;
+  tree-asks = tree-asks;
+  ring-state = ring-state;
+  tree-state = tree-state;
+  ring-quiet = ring-quiet;
+  tree-quiet = tree-quiet;
+  ring-last = ring-last;
+  tree-last = tree-last;
+}

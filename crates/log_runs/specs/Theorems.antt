@@ -1,0 +1,57 @@
+-- Demand 3 of what is printed for a log: its run is the run of the requests that its lines say, so that `WholeRuns` (crates ring_runs and
+-- tree_runs) speaks of it. The proofs are in proofs/Theorems.antt.
+use Prim.Native.Nat.{_+_, ℕ}
+use lib.ListN.{length}
+use mathlib.Core.List.{List, _++_, _∷_}
+use mathlib.Core.Path.{_≡_}
+use Rattle.forms.specs.Form.{Says, announce}
+use Rattle.log_rules.specs.Answers.{Stage, answerText, fresh, lineTold, onRing, onTree}
+use Rattle.log_rules.specs.Output.{linesTold}
+use Rattle.log_rules.specs.Theorems.{LinesOf}
+use Rattle.refusal.specs.declared.Verdict.the-variants.{Accepted}
+use Rattle.runs.specs.Runs.{Request, acceptedOf, runOf}
+use Rattle.log_runs.specs.Says.{BegunOpen, RingSays, TreeSays, movesIn, printed, stageAfter}
+use Rattle.ring_rules.specs.State as ringState
+use Rattle.ring_rules.specs.Soundness as ringSound
+use Rattle.ring_runs.specs.Counts as ringCounts
+use Rattle.tree_rules.specs.State as treeState
+use Rattle.tree_rules.specs.Soundness as treeSound
+use Rattle.tree_runs.specs.Counts as treeCounts
+
+-- the answer to a line, line j of a log that has come to s, is `(ok j)`
+abbrev pub Ok : Stage → ℕ → List ℕ → Type 0
+Ok s j l = lineTold s j l .text ≡ answerText j Accepted
+
+pub record LogRuns : Type 0 where
+  -- the answer to a line stands in the output behind those of the lines before it
+  pub output :
+      (s : Stage) (k : ℕ) (ls : List (List ℕ)) (l : List ℕ) (rest : List (List ℕ))
+      → linesTold s k (ls ++ (l ∷ rest))
+      ≡ printed s k ls ++ (lineTold (stageAfter s k ls) (k + length ls) l .text ++ linesTold (lineTold (stageAfter s k ls) (k + length ls) l .stage) (k + length ls + 1) rest)
+  -- the first line begins an open run, or none
+  pub first : (l : List ℕ) → BegunOpen (lineTold fresh 1 l .stage)
+  -- the lines of every log say requests
+  pub ring-asks : {s : List ℕ} {ls : List (List ℕ)} → LinesOf s ls → (xs : List Request) × RingSays ls xs
+  pub tree-asks : {s : List ℕ} {ls : List (List ℕ)} → LinesOf s ls → (xs : List Request) × TreeSays ls xs
+  -- and the log comes to what these requests lead to; "moves are accepted token moves"
+  pub ring-state :
+      (r : ringState.State) (m k : ℕ) {ls : List (List ℕ)} {xs : List Request} → RingSays ls xs
+      → stageAfter (onRing r m) k ls ≡ onRing (runOf ringCounts.ring r xs) (m + movesIn (acceptedOf ringCounts.ring r xs))
+  pub tree-state :
+      (t : treeState.State) (k : ℕ) {ls : List (List ℕ)} {xs : List Request} → TreeSays ls xs
+      → stageAfter (onTree t) k ls ≡ onTree (runOf treeCounts.tree t xs)
+  -- `(ok j)` is printed for an announce line only if every node is passive and no message is in transit, counted from the start and the
+  -- requests accepted before it
+  pub ring-quiet :
+      (r : ringState.State) → ringSound.Open r → (m k j : ℕ) {ls : List (List ℕ)} {xs : List Request} → RingSays ls xs
+      → (l : List ℕ) → Says l announce → Ok (stageAfter (onRing r m) k ls) j l → ringCounts.QuietBy r xs
+  pub tree-quiet :
+      (t : treeState.State) → treeSound.Open t → (k j : ℕ) {ls : List (List ℕ)} {xs : List Request} → TreeSays ls xs
+      → (l : List ℕ) → Says l announce → Ok (stageAfter (onTree t) k ls) j l → treeCounts.QuietBy t xs
+  -- and for no line after it
+  pub ring-last :
+      (r : ringState.State) → ringSound.Open r → (m k j : ℕ) {ls : List (List ℕ)} {xs : List Request} → RingSays ls xs
+      → ringCounts.Announced r xs → (l : List ℕ) → Ok (stageAfter (onRing r m) k ls) j l → ⊥
+  pub tree-last :
+      (t : treeState.State) → treeSound.Open t → (k j : ℕ) {ls : List (List ℕ)} {xs : List Request} → TreeSays ls xs
+      → treeCounts.Announced t xs → (l : List ℕ) → Ok (stageAfter (onTree t) k ls) j l → ⊥
