@@ -28,7 +28,6 @@ use Rattle.log_rules.specs.Answers as rules
 use Rattle.first_line.specs.declared.Kind.the-variants as line
 use Rattle.ring_rules.specs.State as ring
 use Rattle.ring_rules.specs.Start as ringStart
-use Rattle.ring_rules.specs.Soundness as ringSound
 use Rattle.ring_rules.proofs.Start as ringLaws
 use Rattle.first_line.specs.Start as starts
 use Rattle.tree_rules.specs.Start as treeStart

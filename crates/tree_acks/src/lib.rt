@@ -3,6 +3,7 @@ use refusal::Refusal;
 use refusal::Verdict;
 use tree_check::Rest;
 use tree_check::Told;
+use tree_check::refused;
 ghost use mathlib.Core.Path.{_≡_};
 ghost use Rattle.tree_rules.specs.Rules.{Ack, Leave, Announce};
 ghost use Rattle.tree_rules.specs.Soundness.{Open};
@@ -25,16 +26,10 @@ pub fn ack<'a>(
         ≡ answerOf (whole r (now (active .entry)) (now (engager .entry)) (now (unacked .entry)) (now (transit .entry)) (now (acks .entry))) Ack i 0 ⌝ }
 {
     if r.n <= i {
-        return Told {
-            verdict: Verdict::Refused(Refusal::UnknownNode),
-            rest: r,
-        };
+        return refused(r, Refusal::UnknownNode);
     }
     if acks[i] == 0 {
-        return Told {
-            verdict: Verdict::Refused(Refusal::RuleFails),
-            rest: r,
-        };
+        return refused(r, Refusal::RuleFails);
     }
     acks[i] -= 1;
     unacked[i] -= 1;
@@ -59,17 +54,11 @@ pub fn leave<'a>(
         ≡ answerOf (whole r (now (active .entry)) (now (engager .entry)) (now (unacked .entry)) (now (transit .entry)) (now (acks .entry))) Leave i 0 ⌝ }
 {
     if r.n <= i {
-        return Told {
-            verdict: Verdict::Refused(Refusal::UnknownNode),
-            rest: r,
-        };
+        return refused(r, Refusal::UnknownNode);
     }
     let e = tree_check::engager_of(engager, i);
     if !((i != r.root) & ((e != 16) & (!active[i] & (unacked[i] == 0)))) {
-        return Told {
-            verdict: Verdict::Refused(Refusal::RuleFails),
-            rest: r,
-        };
+        return refused(r, Refusal::RuleFails);
     }
     engager[i] = 16;
     acks[e] += 1;
@@ -93,10 +82,7 @@ pub fn announce<'a>(
         ≡ answerOf (whole r (now (active .entry)) (now (engager .entry)) (now (unacked .entry)) (now (transit .entry)) (now (acks .entry))) Announce 0 0 ⌝ }
 {
     if !tree_check::is_conclusive(r, active, engager, unacked, transit, acks) {
-        return Told {
-            verdict: Verdict::Refused(Refusal::RuleFails),
-            rest: r,
-        };
+        return refused(r, Refusal::RuleFails);
     }
     let rest = Rest {
         n: r.n,

@@ -3,6 +3,7 @@ use refusal::Refusal;
 use refusal::Verdict;
 use tree_check::Rest;
 use tree_check::Told;
+use tree_check::refused;
 ghost use mathlib.Core.Path.{_≡_};
 ghost use Rattle.tree_rules.specs.Rules.{Send, Take, Idle};
 ghost use Rattle.tree_rules.specs.Soundness.{Open};
@@ -26,34 +27,19 @@ pub fn send<'a>(
         ≡ answerOf (whole r (now (active .entry)) (now (engager .entry)) (now (unacked .entry)) (now (transit .entry)) (now (acks .entry))) Send i j ⌝ }
 {
     if r.n <= i {
-        return Told {
-            verdict: Verdict::Refused(Refusal::UnknownNode),
-            rest: r,
-        };
+        return refused(r, Refusal::UnknownNode);
     }
     if r.n <= j {
-        return Told {
-            verdict: Verdict::Refused(Refusal::UnknownNode),
-            rest: r,
-        };
+        return refused(r, Refusal::UnknownNode);
     }
     if i == j {
-        return Told {
-            verdict: Verdict::Refused(Refusal::SelfMessage),
-            rest: r,
-        };
+        return refused(r, Refusal::SelfMessage);
     }
     if !active[i] {
-        return Told {
-            verdict: Verdict::Refused(Refusal::RuleFails),
-            rest: r,
-        };
+        return refused(r, Refusal::RuleFails);
     }
     if 1000000 <= r.sends {
-        return Told {
-            verdict: Verdict::Refused(Refusal::SendLimit),
-            rest: r,
-        };
+        return refused(r, Refusal::SendLimit);
     }
     unacked[i] += 1;
     transit[i * 16 + j] += 1;
@@ -81,22 +67,13 @@ pub fn take<'a>(
         ≡ answerOf (whole r (now (active .entry)) (now (engager .entry)) (now (unacked .entry)) (now (transit .entry)) (now (acks .entry))) Take i k ⌝ }
 {
     if r.n <= i {
-        return Told {
-            verdict: Verdict::Refused(Refusal::UnknownNode),
-            rest: r,
-        };
+        return refused(r, Refusal::UnknownNode);
     }
     if r.n <= k {
-        return Told {
-            verdict: Verdict::Refused(Refusal::UnknownNode),
-            rest: r,
-        };
+        return refused(r, Refusal::UnknownNode);
     }
     if transit[k * 16 + i] == 0 {
-        return Told {
-            verdict: Verdict::Refused(Refusal::RuleFails),
-            rest: r,
-        };
+        return refused(r, Refusal::RuleFails);
     }
     transit[k * 16 + i] -= 1;
     active[i] = true;
@@ -129,16 +106,10 @@ pub fn idle<'a>(
         ≡ answerOf (whole r (now (active .entry)) (now (engager .entry)) (now (unacked .entry)) (now (transit .entry)) (now (acks .entry))) Idle i 0 ⌝ }
 {
     if r.n <= i {
-        return Told {
-            verdict: Verdict::Refused(Refusal::UnknownNode),
-            rest: r,
-        };
+        return refused(r, Refusal::UnknownNode);
     }
     if !active[i] {
-        return Told {
-            verdict: Verdict::Refused(Refusal::RuleFails),
-            rest: r,
-        };
+        return refused(r, Refusal::RuleFails);
     }
     active[i] = false;
     Told {

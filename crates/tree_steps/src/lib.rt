@@ -1,11 +1,11 @@
 // A step by its kind number over lent columns, of a state that is known to be sound.
 use refusal::Refusal;
-use refusal::Verdict;
 use tree_acks::ack;
 use tree_acks::announce;
 use tree_acks::leave;
 use tree_check::Rest;
 use tree_check::Told;
+use tree_check::refused;
 use tree_messages::idle;
 use tree_messages::send;
 use tree_messages::take;
@@ -33,10 +33,7 @@ pub fn step(
         ≡ answerOf (whole r (now (active .entry)) (now (engager .entry)) (now (unacked .entry)) (now (transit .entry)) (now (acks .entry))) (kindOf kind) i j ⌝ }
 {
     if r.closed {
-        return Told {
-            verdict: Verdict::Refused(Refusal::Closed),
-            rest: r,
-        };
+        return refused(r, Refusal::Closed);
     }
     match kind {
         1 => send(r, active, engager, unacked, transit, acks, i, j),
@@ -45,9 +42,6 @@ pub fn step(
         4 => ack(r, active, engager, unacked, transit, acks, i),
         5 => leave(r, active, engager, unacked, transit, acks, i),
         6 => announce(r, active, engager, unacked, transit, acks),
-        _ => Told {
-            verdict: Verdict::Refused(Refusal::UnknownKind),
-            rest: r,
-        },
+        _ => refused(r, Refusal::UnknownKind),
     }
 }

@@ -5,13 +5,6 @@ use Rattle.log_lines.proofs.Ends.{found-line, found-none}
 use Rattle.log_held.proofs.Feeds.{full-fed, part-fed, whole-fed}
 use Rattle.log.proofs.feed.Statement.{statement}
 use Rattle.log.proofs.feed.Tie as tie
-use Rattle.log.proofs.feed.Reads as reads
-use Rattle.log.proofs.feed.Lts as lts
-use Rattle.log_held.proofs.answer_held.Reads as answer-held-reads
-use Rattle.log.proofs.go_on.Reads as go-on-reads
-use Rattle.log_held.proofs.holding.Reads as holding-reads
-use Rattle.log_lines.proofs.hold.Reads as hold-reads
-use Rattle.log_lines.proofs.line_end.Reads as line-end-reads
 
 returns : tie.Need-returns
 returns c = full-fed (c .before .before .before .before .before .args .log) _ _ _ (c .if1 .taken) (c .before .before .before .before .before .pre .0)

@@ -6,10 +6,6 @@ use Rattle.log_held.proofs.Feeds.{over-fed}
 use Rattle.log.proofs.go_on.Statement.{statement}
 use Rattle.log_first.specs.declared.Stage as code
 use Rattle.log.proofs.go_on.Tie as tie
-use Rattle.log.proofs.go_on.Reads as reads
-use Rattle.log.proofs.go_on.Lts as lts
-use Rattle.log.proofs.go_ring.Reads as go-ring-reads
-use Rattle.log.proofs.go_tree.Reads as go-tree-reads
 
 enum-told : tie.Need-enum-told
 enum-told c = search needs

@@ -3,10 +3,6 @@ use native.Mathlib.Omega.{arith}
 use Rattle.log_held.proofs.Feeds.{fed-went}
 use Rattle.log.proofs.go_ring.Statement.{statement}
 use Rattle.log.proofs.go_ring.Tie as tie
-use Rattle.log.proofs.go_ring.Reads as reads
-use Rattle.log.proofs.go_ring.Lts as lts
-use Rattle.log.proofs.hold_rest.Reads as hold-rest-reads
-use Rattle.log_ring.proofs.ring_piece.Reads as ring-piece-reads
 
 ring-piece-requires : tie.Need-ring-piece-requires
 ring-piece-requires c κs = search needs

@@ -3,10 +3,6 @@ use native.Mathlib.Omega.{arith}
 use Rattle.log_held.proofs.Feeds.{fed-went}
 use Rattle.log.proofs.go_tree.Statement.{statement}
 use Rattle.log.proofs.go_tree.Tie as tie
-use Rattle.log.proofs.go_tree.Reads as reads
-use Rattle.log.proofs.go_tree.Lts as lts
-use Rattle.log.proofs.hold_rest.Reads as hold-rest-reads
-use Rattle.log_tree.proofs.tree_piece.Reads as tree-piece-reads
 
 tree-piece-requires : tie.Need-tree-piece-requires
 tree-piece-requires c κs = search needs

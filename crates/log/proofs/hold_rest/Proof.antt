@@ -3,9 +3,6 @@ use native.Mathlib.Omega.{arith}
 use Rattle.log_held.proofs.Feeds.{full-rest, held-rest}
 use Rattle.log.proofs.hold_rest.Statement.{statement}
 use Rattle.log.proofs.hold_rest.Tie as tie
-use Rattle.log.proofs.hold_rest.Reads as reads
-use Rattle.log.proofs.hold_rest.Lts as lts
-use Rattle.log_lines.proofs.hold.Reads as hold-reads
 
 returns : tie.Need-returns
 returns c = full-rest _ _ _ _ (c .if1 .taken)

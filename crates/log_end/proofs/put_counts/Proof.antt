@@ -7,10 +7,6 @@ use Rattle.log_text.proofs.Texts.{item-length, item-wrote}
 use Rattle.log_end.proofs.Items.{item-short}
 use Rattle.log_end.proofs.put_counts.Statement.{statement}
 use Rattle.log_end.proofs.put_counts.Tie as tie
-use Rattle.log_end.proofs.put_counts.Reads as reads
-use Rattle.log_end.proofs.put_counts.Lts as lts
-use Rattle.decimal.proofs.put_word.Reads as put-word-reads
-use Rattle.log_text.proofs.put_item.Reads as put-item-reads
 
 slice-aggregate-put-item : tie.Need-slice-aggregate-put-item
 slice-aggregate-put-item c = search needs

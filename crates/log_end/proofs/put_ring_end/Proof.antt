@@ -1,11 +1,6 @@
 use borrow.Author.Needs.{needs}
 use Rattle.log_end.proofs.put_ring_end.Statement.{statement}
 use Rattle.log_end.proofs.put_ring_end.Tie as tie
-use Rattle.log_end.proofs.put_ring_end.Reads as reads
-use Rattle.log_end.proofs.put_ring_end.Lts as lts
-use Rattle.log_end.proofs.put_counts.Reads as put-counts-reads
-use Rattle.ring.proofs.Ring.black_nodes.Reads as black-nodes-reads
-use Rattle.ring.proofs.Ring.in_transit.Reads as in-transit-reads
 
 in-transit-requires : tie.Need-in-transit-requires
 in-transit-requires c κs = search needs

@@ -10,9 +10,6 @@ use Rattle.refusal.specs.declared.Verdict.the-variants.{Refused}
 use Rattle.log_finish.proofs.Texts.{full-cut, no-cut, some-cut}
 use Rattle.log_finish.proofs.put_cut.Statement.{statement}
 use Rattle.log_finish.proofs.put_cut.Tie as tie
-use Rattle.log_finish.proofs.put_cut.Reads as reads
-use Rattle.log_finish.proofs.put_cut.Lts as lts
-use Rattle.log_text.proofs.put_answer.Reads as put-answer-reads
 
 returns : tie.Need-returns
 unfolding put

@@ -7,12 +7,6 @@ use Rattle.refusal.specs.declared.Verdict.the-variants.{Accepted}
 use Rattle.log_first.proofs.Laws.{many-nodes, no-nodes, ring-begins, unknown-node}
 use Rattle.log_first.proofs.open_ring.Statement.{statement}
 use Rattle.log_first.proofs.open_ring.Tie as tie
-use Rattle.log_first.proofs.open_ring.Reads as reads
-use Rattle.log_first.proofs.open_ring.Lts as lts
-use Rattle.log_first.proofs.blank_tree.Reads as blank-tree-reads
-use Rattle.log_first.proofs.refuse.Reads as refuse-reads
-use Rattle.log_text.proofs.put_answer.Reads as put-answer-reads
-use Rattle.ring.proofs.Ring.start.Reads as start-reads
 
 refuse-requires : tie.Need-refuse-requires
 refuse-requires c κs = search needs

@@ -5,12 +5,6 @@ use Rattle.log_first.proofs.Laws.{run-told, seen-flags}
 use Rattle.log_first.specs.Open.{Flags}
 use Rattle.log_first.proofs.open_run.Statement.{statement}
 use Rattle.log_first.proofs.open_run.Tie as tie
-use Rattle.log_first.proofs.open_run.Reads as reads
-use Rattle.log_first.proofs.open_run.Lts as lts
-use Rattle.first_line.proofs.read_first.Reads as read-first-reads
-use Rattle.log_first.proofs.open_ring.Reads as open-ring-reads
-use Rattle.log_first.proofs.open_tree.Reads as open-tree-reads
-use Rattle.log_first.proofs.refuse.Reads as refuse-reads
 
 read-first-requires : tie.Need-read-first-requires
 read-first-requires c κs = search needs

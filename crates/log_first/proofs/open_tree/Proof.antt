@@ -6,12 +6,6 @@ use Rattle.refusal.specs.declared.Verdict.the-variants.{Accepted}
 use Rattle.log_first.proofs.Laws.{no-tree, tree-begins}
 use Rattle.log_first.proofs.open_tree.Statement.{statement}
 use Rattle.log_first.proofs.open_tree.Tie as tie
-use Rattle.log_first.proofs.open_tree.Reads as reads
-use Rattle.log_first.proofs.open_tree.Lts as lts
-use Rattle.log_first.proofs.blank_ring.Reads as blank-ring-reads
-use Rattle.log_first.proofs.refuse.Reads as refuse-reads
-use Rattle.log_text.proofs.put_answer.Reads as put-answer-reads
-use Rattle.tree.proofs.Tree.start.Reads as start-reads
 
 start-requires : tie.Need-start-requires
 start-requires c κs = search needs

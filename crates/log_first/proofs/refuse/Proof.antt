@@ -5,11 +5,6 @@ use Rattle.log_text.proofs.Texts.{answer-short}
 use Rattle.refusal.specs.declared.Verdict.the-variants.{Refused}
 use Rattle.log_first.proofs.refuse.Statement.{statement}
 use Rattle.log_first.proofs.refuse.Tie as tie
-use Rattle.log_first.proofs.refuse.Reads as reads
-use Rattle.log_first.proofs.refuse.Lts as lts
-use Rattle.log_first.proofs.blank_ring.Reads as blank-ring-reads
-use Rattle.log_first.proofs.blank_tree.Reads as blank-tree-reads
-use Rattle.log_text.proofs.put_answer.Reads as put-answer-reads
 
 put-answer-requires : tie.Need-put-answer-requires
 put-answer-requires c κs = omega (arith, answer-short 1 (Refused (c .before .before .args .e)) (omega arith))

@@ -9,11 +9,6 @@ use Rattle.log_held.proofs.Held.{first-told}
 use Rattle.log_held.proofs.held_first.Statement.{statement}
 use Rattle.log_rules.specs.Answers as rules
 use Rattle.log_held.proofs.held_first.Tie as tie
-use Rattle.log_held.proofs.held_first.Reads as reads
-use Rattle.log_held.proofs.held_first.Lts as lts
-use Rattle.log_held.proofs.begun.Reads as begun-reads
-use Rattle.log_first.proofs.open_run.Reads as open-run-reads
-use Rattle.log_first.proofs.refuse.Reads as refuse-reads
 
 refuse-requires : tie.Need-refuse-requires
 refuse-requires c κs = search needs

@@ -12,10 +12,6 @@ use Rattle.log_held.proofs.held_ring.Statement.{statement}
 use Rattle.log_rules.specs.Answers as rules
 use Rattle.ring.specs.View as view
 use Rattle.log_held.proofs.held_ring.Tie as tie
-use Rattle.log_held.proofs.held_ring.Reads as reads
-use Rattle.log_held.proofs.held_ring.Lts as lts
-use Rattle.log_ring.proofs.ring_piece.Reads as ring-piece-reads
-use Rattle.log_text.proofs.put_answer.Reads as put-answer-reads
 
 add-put-answer : tie.Need-add-put-answer
 add-put-answer c = search needs

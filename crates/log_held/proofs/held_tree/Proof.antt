@@ -12,10 +12,6 @@ use Rattle.log_held.proofs.held_tree.Statement.{statement}
 use Rattle.log_rules.specs.Answers as rules
 use Rattle.tree.specs.View as view
 use Rattle.log_held.proofs.held_tree.Tie as tie
-use Rattle.log_held.proofs.held_tree.Reads as reads
-use Rattle.log_held.proofs.held_tree.Lts as lts
-use Rattle.log_text.proofs.put_answer.Reads as put-answer-reads
-use Rattle.log_tree.proofs.tree_piece.Reads as tree-piece-reads
 
 add-put-answer : tie.Need-add-put-answer
 add-put-answer c = search needs

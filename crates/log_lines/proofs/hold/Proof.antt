@@ -8,9 +8,6 @@ use Rattle.log_lines.proofs.Parts.{count-more, hold-end, hold-more}
 use Rattle.log_lines.specs.Lines.{part}
 use Rattle.log_lines.proofs.hold.Statement.{statement}
 use Rattle.log_lines.proofs.hold.Tie as tie
-use Rattle.log_lines.proofs.hold.Reads as reads
-use Rattle.log_lines.proofs.hold.Lts as lts
-use Rattle.log_lines.proofs.keep.Reads as keep-reads
 
 abbrev Inv-loop : tie.InvT-loop
 Inv-loop piece from to line₀ len k₀ i₀ line k i = (from ≤ i) × (i ≤ to) × (k ≤ 701) × (length line ≡ 700) × (min (k + (to - i)) 701 ≡ min (len + (to - from)) 701)

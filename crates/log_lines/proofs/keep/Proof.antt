@@ -3,8 +3,6 @@ use native.Mathlib.Omega.{arith}
 use Rattle.log_lines.proofs.Parts.{keep-full, keep-more}
 use Rattle.log_lines.proofs.keep.Statement.{statement}
 use Rattle.log_lines.proofs.keep.Tie as tie
-use Rattle.log_lines.proofs.keep.Reads as reads
-use Rattle.log_lines.proofs.keep.Lts as lts
 
 returns : tie.Need-returns
 returns c = let a = c .before .args in (omega arith, keep-full (a .line .now) (a .k) (a .b) (c .before .pre .0) (c .if1 .taken))

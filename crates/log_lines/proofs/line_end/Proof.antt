@@ -7,8 +7,6 @@ use Rattle.log_lines.proofs.Ends.{end-here, end-more, end-none}
 use Rattle.log_lines.specs.Lines.{endAt}
 use Rattle.log_lines.proofs.line_end.Statement.{statement}
 use Rattle.log_lines.proofs.line_end.Tie as tie
-use Rattle.log_lines.proofs.line_end.Reads as reads
-use Rattle.log_lines.proofs.line_end.Lts as lts
 
 abbrev Inv-loop : tie.InvT-loop
 Inv-loop piece from i₀ i = endAt piece i ≡ endAt piece from

@@ -6,9 +6,6 @@ use Rattle.log_rules.specs.Answers.{isMove}
 use Rattle.log_ring.proofs.Laws.{counted, uncounted}
 use Rattle.log_ring.proofs.moved.Statement.{statement}
 use Rattle.log_ring.proofs.moved.Tie as tie
-use Rattle.log_ring.proofs.moved.Reads as reads
-use Rattle.log_ring.proofs.moved.Lts as lts
-use Rattle.log_ring.proofs.moved_by.Reads as moved-by-reads
 
 enum-told : tie.Need-enum-told
 enum-told c = search needs

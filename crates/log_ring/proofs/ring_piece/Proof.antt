@@ -4,11 +4,6 @@ use Rattle.ring_rules.specs.Soundness.{Sound}
 use Rattle.log_ring.proofs.Laws.{fed-by}
 use Rattle.log_ring.proofs.ring_piece.Statement.{statement}
 use Rattle.log_ring.proofs.ring_piece.Tie as tie
-use Rattle.log_ring.proofs.ring_piece.Reads as reads
-use Rattle.log_ring.proofs.ring_piece.Lts as lts
-use Rattle.log_ring.proofs.run_lines.Reads as run-lines-reads
-use Rattle.ring.proofs.gathered.Reads as gathered-reads
-use Rattle.ring.proofs.rest_of.Reads as rest-of-reads
 
 rest-of-requires : tie.Need-rest-of-requires
 rest-of-requires c κs = search needs

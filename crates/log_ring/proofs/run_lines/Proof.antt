@@ -11,9 +11,6 @@ use Rattle.log_ring.proofs.Laws.{run-fits, run-none, run-then}
 use Rattle.log_ring.specs.Run.{RingWent}
 use Rattle.log_ring.proofs.run_lines.Statement.{statement}
 use Rattle.log_ring.proofs.run_lines.Tie as tie
-use Rattle.log_ring.proofs.run_lines.Reads as reads
-use Rattle.log_ring.proofs.run_lines.Lts as lts
-use Rattle.log_ring.proofs.turn.Reads as turn-reads
 
 abbrev Inv-loop : tie.InvT-loop
 Inv-loop active₀ color₀ sent₀ received₀ pending₀ piece out₀ r₀ active color sent received pending out r = RingWent r₀ r (whole (r₀ .rest) active₀ color₀ sent₀ received₀ pending₀) (whole (r .rest) active color sent received pending) piece out₀ out × (length out ≡ length out₀)

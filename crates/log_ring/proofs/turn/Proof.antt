@@ -8,12 +8,6 @@ use Rattle.ring_check.specs.declared.Rest.{Rest}
 use Rattle.log_ring.proofs.Laws.{answered-went, formless-answered, run-none}
 use Rattle.log_ring.proofs.turn.Statement.{statement}
 use Rattle.log_ring.proofs.turn.Tie as tie
-use Rattle.log_ring.proofs.turn.Reads as reads
-use Rattle.log_ring.proofs.turn.Lts as lts
-use Rattle.ring_forms.proofs.ring_step.Reads as ring-step-reads
-use Rattle.log_lines.proofs.line_end.Reads as line-end-reads
-use Rattle.log_ring.proofs.formless_line.Reads as formless-line-reads
-use Rattle.log_ring.proofs.step_line.Reads as step-line-reads
 
 ring-step-requires : tie.Need-ring-step-requires
 ring-step-requires c κs = search needs

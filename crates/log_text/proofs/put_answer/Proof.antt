@@ -6,10 +6,6 @@ use Rattle.log_rules.specs.Answers.{answerText}
 use Rattle.refusal.specs.declared.Verdict.{Verdict}
 use Rattle.log_text.proofs.put_answer.Statement.{statement}
 use Rattle.log_text.proofs.put_answer.Tie as tie
-use Rattle.log_text.proofs.put_answer.Reads as reads
-use Rattle.log_text.proofs.put_answer.Lts as lts
-use Rattle.log_text.proofs.put_no.Reads as put-no-reads
-use Rattle.log_text.proofs.put_ok.Reads as put-ok-reads
 
 enum-told : tie.Need-enum-told
 enum-told c = search needs

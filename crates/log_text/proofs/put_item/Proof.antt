@@ -6,10 +6,6 @@ use Rattle.decimal.proofs.Put.{put-then}
 use Rattle.decimal.specs.Text.{decimal}
 use Rattle.log_text.proofs.put_item.Statement.{statement}
 use Rattle.log_text.proofs.put_item.Tie as tie
-use Rattle.log_text.proofs.put_item.Reads as reads
-use Rattle.log_text.proofs.put_item.Lts as lts
-use Rattle.decimal.proofs.put_decimal.Reads as put-decimal-reads
-use Rattle.decimal.proofs.put_word.Reads as put-word-reads
 
 put-word-requires : tie.Need-put-word-requires
 put-word-requires c κs = let a = c .before .before .before .args in omega (arith, length-append (a .word .now) (decimal (a .n)))

@@ -11,11 +11,6 @@ use Rattle.log_text.proofs.Texts.{item-length, item-wrote}
 use Rattle.log_text.specs.Wrote.{item}
 use Rattle.log_text.proofs.put_no.Statement.{statement}
 use Rattle.log_text.proofs.put_no.Tie as tie
-use Rattle.log_text.proofs.put_no.Reads as reads
-use Rattle.log_text.proofs.put_no.Lts as lts
-use Rattle.decimal.proofs.put_word.Reads as put-word-reads
-use Rattle.log_text.proofs.put_item.Reads as put-item-reads
-use Rattle.refusal.proofs.number.Reads as number-reads
 
 number-requires : tie.Need-number-requires
 number-requires c κs = search needs

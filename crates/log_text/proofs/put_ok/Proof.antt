@@ -4,10 +4,6 @@ use Rattle.decimal.specs.Bytes.{bytes}
 use Rattle.log_text.proofs.Texts.{item-length, item-wrote}
 use Rattle.log_text.proofs.put_ok.Statement.{statement}
 use Rattle.log_text.proofs.put_ok.Tie as tie
-use Rattle.log_text.proofs.put_ok.Reads as reads
-use Rattle.log_text.proofs.put_ok.Lts as lts
-use Rattle.decimal.proofs.put_word.Reads as put-word-reads
-use Rattle.log_text.proofs.put_item.Reads as put-item-reads
 
 slice-aggregate-put-item : tie.Need-slice-aggregate-put-item
 slice-aggregate-put-item c = search needs

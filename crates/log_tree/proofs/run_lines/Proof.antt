@@ -11,9 +11,6 @@ use Rattle.log_tree.proofs.Laws.{run-fits, run-none, run-then}
 use Rattle.log_tree.specs.Run.{TreeWent}
 use Rattle.log_tree.proofs.run_lines.Statement.{statement}
 use Rattle.log_tree.proofs.run_lines.Tie as tie
-use Rattle.log_tree.proofs.run_lines.Reads as reads
-use Rattle.log_tree.proofs.run_lines.Lts as lts
-use Rattle.log_tree.proofs.turn.Reads as turn-reads
 
 abbrev Inv-loop : tie.InvT-loop
 Inv-loop active₀ engager₀ unacked₀ transit₀ acks₀ piece out₀ r₀ active engager unacked transit acks out r = TreeWent r₀ r (whole (r₀ .rest) active₀ engager₀ unacked₀ transit₀ acks₀) (whole (r .rest) active engager unacked transit acks) piece out₀ out × (length out ≡ length out₀)

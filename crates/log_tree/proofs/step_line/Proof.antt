@@ -6,11 +6,6 @@ use Rattle.log_text.proofs.Texts.{answer-short}
 use Rattle.log_tree.proofs.Laws.{step-answered}
 use Rattle.log_tree.proofs.step_line.Statement.{statement}
 use Rattle.log_tree.proofs.step_line.Tie as tie
-use Rattle.log_tree.proofs.step_line.Reads as reads
-use Rattle.log_tree.proofs.step_line.Lts as lts
-use Rattle.log_text.proofs.put_answer.Reads as put-answer-reads
-use Rattle.log_tree.proofs.request_of.Reads as request-of-reads
-use Rattle.tree_steps.proofs.step.Reads as step-reads
 
 request-of-requires : tie.Need-request-of-requires
 request-of-requires c κs = search needs

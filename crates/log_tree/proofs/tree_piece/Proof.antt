@@ -4,11 +4,6 @@ use Rattle.tree_rules.specs.Soundness.{Sound}
 use Rattle.log_tree.proofs.Laws.{fed-by}
 use Rattle.log_tree.proofs.tree_piece.Statement.{statement}
 use Rattle.log_tree.proofs.tree_piece.Tie as tie
-use Rattle.log_tree.proofs.tree_piece.Reads as reads
-use Rattle.log_tree.proofs.tree_piece.Lts as lts
-use Rattle.log_tree.proofs.run_lines.Reads as run-lines-reads
-use Rattle.tree.proofs.gathered.Reads as gathered-reads
-use Rattle.tree.proofs.rest_of.Reads as rest-of-reads
 
 rest-of-requires : tie.Need-rest-of-requires
 rest-of-requires c κs = search needs

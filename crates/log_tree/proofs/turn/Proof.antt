@@ -8,12 +8,6 @@ use Rattle.tree_check.specs.declared.Rest.{Rest}
 use Rattle.log_tree.proofs.Laws.{answered-went, formless-answered, run-none}
 use Rattle.log_tree.proofs.turn.Statement.{statement}
 use Rattle.log_tree.proofs.turn.Tie as tie
-use Rattle.log_tree.proofs.turn.Reads as reads
-use Rattle.log_tree.proofs.turn.Lts as lts
-use Rattle.tree_forms.proofs.tree_step.Reads as tree-step-reads
-use Rattle.log_lines.proofs.line_end.Reads as line-end-reads
-use Rattle.log_tree.proofs.formless_line.Reads as formless-line-reads
-use Rattle.log_tree.proofs.step_line.Reads as step-line-reads
 
 tree-step-requires : tie.Need-tree-step-requires
 tree-step-requires c κs = search needs

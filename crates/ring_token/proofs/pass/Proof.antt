@@ -1,27 +1,33 @@
-use borrow.Author.Needs.{needs}
-use borrow.Author.Tests.{le-leb, lt-leb, ltb-true, not-false, not-true}
 use lib.Dec.{ltb}
+use Rattle.laws.proofs.Tests.{both}
+use borrow.Author.Tests.{le-leb, lt-leb, ltb-true, not-false, not-true}
 use mathlib.Core.Path.{refl}
 use mir.Facts.{toZ-ofZ}
 use mir.Syntax.{w64}
 use mir.Val.{SFits}
 use native.Mathlib.Omega.{arith}
-use Rattle.laws.proofs.Tests.{both}
 use Rattle.ring_check.proofs.Laws.{small-sum}
 use Rattle.ring_rules.proofs.Answers.{accepted-answer, node-answer, rule-answer}
 use Rattle.ring_rules.specs.Rules.{Pass, mayPass}
+use borrow.Author.Needs.{needs}
 use Rattle.ring_token.proofs.pass.Statement.{statement}
 use Rattle.ring_token.proofs.pass.Tie as tie
 
+refused-requires : tie.Need-refused-requires
+refused-requires c κs = search needs
+
 returns : tie.Need-returns
-returns c = node-answer _ Pass _ _ (c .before .before .pre) refl (le-leb _ _ (c .if1 .taken))
+returns c = rw (c .refused .ensures .0, c .refused .ensures .1) (node-answer _ Pass _ _ (c .before .before .before .pre) refl (le-leb _ _ (c .before .if1 .taken)))
 
 element-copy-out-if2 : tie.Need-element-copy-out-if2
 element-copy-out-if2 c = search needs
 
+refused-requires-2 : tie.Need-refused-requires-2
+refused-requires-2 c κs = search needs
+
 returns-2 : tie.Need-returns-2
 unfolding mayPass
-returns-2 c = rule-answer _ Pass _ _ (c .before .before .before .before .before .pre) refl (lt-leb _ _ (c .before .before .before .if1 .left)) refl (not-true _ (c .if2 .taken))
+returns-2 c = rw (c .refused2 .ensures .0, c .refused2 .ensures .1) (rule-answer _ Pass _ _ (c .before .before .before .before .before .before .pre) refl (lt-leb _ _ (c .before .before .before .before .if1 .left)) refl (not-true _ (c .before .if2 .taken)))
 
 is-black-requires : tie.Need-is-black-requires
 is-black-requires c κs = search needs
@@ -45,27 +51,26 @@ wide-requires-2 : tie.Need-wide-requires-2
 wide-requires-2 c κs = search needs
 
 plus-counter-requires : tie.Need-plus-counter-requires
-plus-counter-requires c κs = let f : SFits w64 (c .before .before .before .before .before .before .before .before .before .before .before .before .args .r .q) = search needs in
-    rw (toZ-ofZ f) (small-sum (c .before .before .before .before .before .before .before .before .before .before .before .before .args .r .q) (c .before .before .before .before .before .before .before .before .before .before .before .before .args .r .n) (c .before .before .before .before .before .before .before .before .before .before .before .before .args .r .pos) (c .before .before .before .before .before .before .before .before .before .before .before .before .pre .sound .nodes) (c .before .before .before .before .before .before .before .before .before .before .before .before .pre .sound .range), omega arith, omega arith)
+plus-counter-requires c κs = let f : SFits w64 (c .before .before .before .before .before .before .before .before .before .before .before .before .args .r .q) = search needs in rw (toZ-ofZ f) (small-sum (c .before .before .before .before .before .before .before .before .before .before .before .before .args .r .q) (c .before .before .before .before .before .before .before .before .before .before .before .before .args .r .n) (c .before .before .before .before .before .before .before .before .before .before .before .before .args .r .pos) (c .before .before .before .before .before .before .before .before .before .before .before .before .pre .sound .nodes) (c .before .before .before .before .before .before .before .before .before .before .before .before .pre .sound .range), omega arith, omega arith)
 
 whiten-requires : tie.Need-whiten-requires
 whiten-requires c κs = search needs
 
-sub-t26 : tie.Need-sub-t26
-sub-t26 c = ltb-true 0 (c .before .before .before .before .before .before .before .before .before .before .before .before .before .before .before .args .i) (both (ltb 0 (c .before .before .before .before .before .before .before .before .before .before .before .before .before .before .before .args .i)) _ (not-false _ (c .before .before .before .before .before .before .before .before .before .before .if2 .left)) .0)
+sub-t24 : tie.Need-sub-t24
+sub-t24 c = ltb-true 0 (c .before .before .before .before .before .before .before .before .before .before .before .before .before .before .before .args .i) (both (ltb 0 (c .before .before .before .before .before .before .before .before .before .before .before .before .before .before .before .args .i)) _ (not-false _ (c .before .before .before .before .before .before .before .before .before .before .if2 .left)) .0)
 
 returns-3 : tie.Need-returns-3
 unfolding mayPass
-returns-3 c = let f : SFits w64 (c .before .before .before .before .before .before .before .before .before .before .before .before .before .before .before .before .args .r .q) = search needs in
-    let g : SFits w64 (c .before .before .before .plus-counter .result) = search needs in
-    rw (toZ-ofZ g, c .before .whiten .ensures, c .before .before .before .plus-counter .ensures, c .before .before .before .before .before .before .before .wide .ensures .0, c .before .before .before .before .before .wide2 .ensures .0, c .before .before .before .before .before .before .before .before .before .is-black .ensures, toZ-ofZ f) (accepted-answer _ Pass _ _ (c .before .before .before .before .before .before .before .before .before .before .before .before .before .before .before .before .pre) refl (lt-leb _ _ (c .before .before .before .before .before .before .before .before .before .before .before .before .before .before .if1 .left)) refl (not-false _ (c .before .before .before .before .before .before .before .before .before .before .before .if2 .left)) refl)
+returns-3 c = let f : SFits w64 (c .before .before .before .before .before .before .before .before .before .before .before .before .before .before .before .before .args .r .q) = search needs in let g : SFits w64 (c .before .before .before .plus-counter .result) = search needs in rw (toZ-ofZ g, c .before .whiten .ensures, c .before .before .before .plus-counter .ensures, c .before .before .before .before .before .before .before .wide .ensures .0, c .before .before .before .before .before .wide2 .ensures .0, c .before .before .before .before .before .before .before .before .before .is-black .ensures, toZ-ofZ f) (accepted-answer _ Pass _ _ (c .before .before .before .before .before .before .before .before .before .before .before .before .before .before .before .before .pre) refl (lt-leb _ _ (c .before .before .before .before .before .before .before .before .before .before .before .before .before .before .if1 .left)) refl (not-false _ (c .before .before .before .before .before .before .before .before .before .before .before .if2 .left)) refl)
 
 pub pass-spec : {M : Type 1} → statement M
 pass-spec =
     tie.close
     (tie.spec
+    refused-requires
     returns
     element-copy-out-if2
+    refused-requires-2
     returns-2
     is-black-requires
     mul-wide
@@ -76,5 +81,5 @@ pass-spec =
     wide-requires-2
     plus-counter-requires
     whiten-requires
-    sub-t26
+    sub-t24
     returns-3)

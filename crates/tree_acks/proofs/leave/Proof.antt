@@ -1,15 +1,18 @@
-use borrow.Author.Needs.{needs}
 use borrow.Author.Tests.{le-leb, lt-leb, not-false, not-true}
 use mathlib.Core.Path.{refl}
 use native.Mathlib.Omega.{arith}
 use Rattle.tree_rules.proofs.Answers.{accepted-answer, node-answer, rule-answer}
 use Rattle.tree_rules.proofs.Bounds.{acks-small, leaver-engager}
 use Rattle.tree_rules.specs.Rules.{Leave, mayLeave}
+use borrow.Author.Needs.{needs}
 use Rattle.tree_acks.proofs.leave.Statement.{statement}
 use Rattle.tree_acks.proofs.leave.Tie as tie
 
+refused-requires : tie.Need-refused-requires
+refused-requires c κs = search needs
+
 returns : tie.Need-returns
-returns c = node-answer _ Leave _ _ (c .before .before .pre) refl (le-leb _ _ (c .if1 .taken))
+returns c = rw (c .refused .ensures .0, c .refused .ensures .1) (node-answer _ Leave _ _ (c .before .before .before .pre) refl (le-leb _ _ (c .before .if1 .taken)))
 
 engager-of-requires : tie.Need-engager-of-requires
 engager-of-requires c κs = search needs
@@ -23,9 +26,12 @@ mul-if2 c = search needs
 element-copy-out-if2-2 : tie.Need-element-copy-out-if2-2
 element-copy-out-if2-2 c = search needs
 
+refused-requires-2 : tie.Need-refused-requires-2
+refused-requires-2 c κs = search needs
+
 returns-2 : tie.Need-returns-2
 unfolding mayLeave
-returns-2 c = rule-answer _ Leave _ _ (c .before .before .before .before .before .before .before .before .pre) refl (lt-leb _ _ (c .before .before .before .before .before .before .if1 .left)) refl (rw (← c .before .before .before .before .engager-of .ensures .0) (not-true _ (c .if2 .taken)))
+returns-2 c = rw (c .refused2 .ensures .0, c .refused2 .ensures .1) (rule-answer _ Leave _ _ (c .before .before .before .before .before .before .before .before .before .pre) refl (lt-leb _ _ (c .before .before .before .before .before .before .before .if1 .left)) refl (rw (← c .before .before .before .before .before .engager-of .ensures .0) (not-true _ (c .before .if2 .taken))))
 
 element-write-engager : tie.Need-element-write-engager
 element-write-engager c = search needs
@@ -53,11 +59,13 @@ pub leave-spec : {M : Type 1} → statement M
 leave-spec =
     tie.close
     (tie.spec
+    refused-requires
     returns
     engager-of-requires
     element-copy-out-if2
     mul-if2
     element-copy-out-if2-2
+    refused-requires-2
     returns-2
     element-write-engager
     mul-acks

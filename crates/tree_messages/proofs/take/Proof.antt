@@ -1,5 +1,4 @@
 use Prim.Native.Nat.{_*_, _+_}
-use borrow.Author.Needs.{needs}
 use borrow.Author.Tests.{le-leb, le-ltb, lt-leb, lt-ltb}
 use lib.Dec.{leb}
 use lib.ListN.{getD}
@@ -11,14 +10,21 @@ use Rattle.tree_rules.proofs.Answers.{accepted-answer, acceptedAs, node-answer,
 use Rattle.tree_rules.proofs.Bounds.{acks-small}
 use Rattle.tree_rules.proofs.Facts.{take-engages, take-replies}
 use Rattle.tree_rules.specs.Rules.{Take}
+use borrow.Author.Needs.{needs}
 use Rattle.tree_messages.proofs.take.Statement.{statement}
 use Rattle.tree_messages.proofs.take.Tie as tie
 
+refused-requires : tie.Need-refused-requires
+refused-requires c κs = search needs
+
 returns : tie.Need-returns
-returns c = node-answer _ Take _ _ (c .before .before .pre) refl (left-true _ (le-leb _ _ (c .if1 .taken)))
+returns c = rw (c .refused .ensures .0, c .refused .ensures .1) (node-answer _ Take _ _ (c .before .before .before .pre) refl (left-true _ (le-leb _ _ (c .before .if1 .taken))))
+
+refused-requires-2 : tie.Need-refused-requires-2
+refused-requires-2 c κs = search needs
 
 returns-2 : tie.Need-returns-2
-returns-2 c = node-answer _ Take _ _ (c .before .before .before .before .pre) refl (right-true (leb (c .before .before .before .before .args .r .n) (c .before .before .before .before .args .i)) (le-leb _ _ (c .if2 .taken)))
+returns-2 c = rw (c .refused2 .ensures .0, c .refused2 .ensures .1) (node-answer _ Take _ _ (c .before .before .before .before .before .pre) refl (right-true (leb (c .before .before .before .before .before .args .r .n) (c .before .before .before .before .before .args .i)) (le-leb _ _ (c .before .if2 .taken))))
 
 mul-if3 : tie.Need-mul-if3
 mul-if3 c = search needs
@@ -32,8 +38,11 @@ mul-if3-2 c = search needs
 element-copy-out-if3 : tie.Need-element-copy-out-if3
 element-copy-out-if3 c = search needs
 
+refused-requires-3 : tie.Need-refused-requires-3
+refused-requires-3 c κs = search needs
+
 returns-3 : tie.Need-returns-3
-returns-3 c = rule-answer _ Take _ _ (c .before .before .before .before .before .before .pre) refl (rw (lt-leb _ _ (c .before .before .before .before .if1 .left), lt-leb _ _ (c .before .before .if2 .left))) refl (le-ltb 0 (getD (c .before .before .before .before .before .before .args .transit .now) (c .before .before .before .before .before .before .args .k * 16 + c .before .before .before .before .before .before .args .i) 0) (omega arith))
+returns-3 c = rw (c .refused3 .ensures .0, c .refused3 .ensures .1) (rule-answer _ Take _ _ (c .before .before .before .before .before .before .before .pre) refl (rw (lt-leb _ _ (c .before .before .before .before .before .if1 .left), lt-leb _ _ (c .before .before .before .if2 .left))) refl (le-ltb 0 (getD (c .before .before .before .before .before .before .before .args .transit .now) (c .before .before .before .before .before .before .before .args .k * 16 + c .before .before .before .before .before .before .before .args .i) 0) (omega arith)))
 
 mul-transit : tie.Need-mul-transit
 mul-transit c = search needs
@@ -87,12 +96,15 @@ pub take-spec : {M : Type 1} → statement M
 take-spec =
     tie.close
     (tie.spec
+    refused-requires
     returns
+    refused-requires-2
     returns-2
     mul-if3
     add-if3
     mul-if3-2
     element-copy-out-if3
+    refused-requires-3
     returns-3
     mul-transit
     add-transit
