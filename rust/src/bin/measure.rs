@@ -10,14 +10,15 @@ use std::path::Path;
 use std::process::ExitCode;
 
 /// Files of `specs/` that hold statements; the others hold definitions.
-const STATEMENTS: [&str; 8] = [
+const STATEMENTS: [&str; 9] = [
     "Agreement",
     "Cases",
     "Exact",
     "Examples",
-    "Instances",
+    "Ring",
     "StarredRuns",
     "Theorems",
+    "Tree",
     "WholeRun",
 ];
 
