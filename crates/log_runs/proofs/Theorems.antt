@@ -4,7 +4,8 @@ use borrow.Author.Tests.{leb-true, ltb-true, not-false}
 use lib.ListN.{getD, length, take}
 use mathlib.Core.Bool.{Bool, _&&_, cond, false, true}
 use mathlib.Core.List.{List, [], _++_, _∷_, append-assoc}
-use mathlib.Core.Path.{_∙_, _≡_, ap, refl, sym}
+use mathlib.Core.Logic.{_↔_}
+use mathlib.Core.Path.{_∙_, _≡_, ap, refl, subst, sym}
 use native.Mathlib.Nat.{add-zero}
 use native.Mathlib.Omega.{arith}
 use Rattle.first_line.specs.Read.{firstAt}
@@ -29,9 +30,10 @@ use Rattle.refusal.specs.declared.Refusal.{Refusal}
 use Rattle.refusal.specs.declared.Refusal.the-variants.{NotAForm}
 use Rattle.refusal.specs.declared.Verdict.{Verdict}
 use Rattle.refusal.specs.declared.Verdict.the-variants.{Accepted, Refused}
-use Rattle.runs.specs.Runs.{Request, acceptedOf, next, runOf}
+use Rattle.runs.specs.Runs.{Accepts, Request, acceptedOf, next, runOf}
+use Rattle.tree_runs.specs.WholeRun.{stepsBy}
 use Rattle.log_runs.specs.Says.{BegunOpen, RingSays, TreeSays, moveBy, movesIn, printed, stageAfter}
-use Rattle.log_runs.specs.Theorems.{LogRuns, Ok}
+use Rattle.log_runs.specs.Theorems.{LogRuns, Ok, RingCountdown}
 use Rattle.log_runs.specs.Says as says
 use Rattle.log_rules.specs.Theorems as lines
 use Rattle.first_line.specs.declared.Kind.the-variants as line
@@ -158,23 +160,63 @@ tree-state t k (says.TreeSays.cut {l} {ls} u c) =
 
 -- ---- an announcement that is printed
 
+ring-announce :
+    (s : ringState.State) (n j : ℕ) (l : List ℕ) → Says l announce
+    → Ok (onRing s n) j l ↔ Accepts ringCounts.ring s (ringRequest ringStep.Announce)
+unfolding ringAnswers.answerOf
+ring-announce s n j l q =
+    let e = ap (λ (y : Told). y .text) (lines-say .ring-step s n j l ringStep.Announce q) in
+    let v = ringCounts.ring .verdict s (ringRequest ringStep.Announce) in
+    (λ ok. ok-accepted j v (sym e ∙ ok), λ a. e ∙ ap (answerText j) a)
+
+tree-announce :
+    (s : treeState.State) (j : ℕ) (l : List ℕ) → Says l announce
+    → Ok (onTree s) j l ↔ Accepts treeCounts.tree s (treeRequest treeStep.Announce)
+unfolding treeAnswers.answerOf
+tree-announce s j l q =
+    let e = ap (λ (y : Told). y .text) (lines-say .tree-step s j l treeStep.Announce q) in
+    let v = treeCounts.tree .verdict s (treeRequest treeStep.Announce) in
+    (λ ok. ok-accepted j v (sym e ∙ ok), λ a. e ∙ ap (answerText j) a)
+
 ring-quiet :
     (r : ringState.State) → ringSound.Open r → (m k j : ℕ) {ls : List (List ℕ)} {xs : List Request} → RingSays ls xs
     → (l : List ℕ) → Says l announce → Ok (stageAfter (onRing r m) k ls) j l → ringCounts.QuietBy r xs
-unfolding ringAnswers.answerOf
-ring-quiet r running m k j {xs = xs} c l s ok =
-    let e = lines-say .ring-step (runOf ringCounts.ring r xs) (m + movesIn (acceptedOf ringCounts.ring r xs)) j l ringStep.Announce s in
+ring-quiet r running m k j {xs = xs} c l q ok =
     ringRuns.whole-runs .point r running xs .quiet (ringRequest ringStep.Announce) refl
-    (ok-accepted j _ (sym (ap (λ (y : Told). y .text) e) ∙ (sym (ap (λ (q : Stage). lineTold q j l .text) (ring-state r m k c)) ∙ ok)))
+    (ring-announce _ _ j l q .0 (subst (λ (s : Stage). Ok s j l) (ring-state r m k c) ok))
 
 tree-quiet :
     (t : treeState.State) → treeSound.Open t → (k j : ℕ) {ls : List (List ℕ)} {xs : List Request} → TreeSays ls xs
     → (l : List ℕ) → Says l announce → Ok (stageAfter (onTree t) k ls) j l → treeCounts.QuietBy t xs
-unfolding treeAnswers.answerOf
-tree-quiet t running k j {xs = xs} c l s ok =
-    let e = lines-say .tree-step (runOf treeCounts.tree t xs) j l treeStep.Announce s in
+tree-quiet t running k j {xs = xs} c l q ok =
     treeRuns.whole-runs .point t running xs .quiet (treeRequest treeStep.Announce) refl
-    (ok-accepted j _ (sym (ap (λ (y : Told). y .text) e) ∙ (sym (ap (λ (q : Stage). lineTold q j l .text) (tree-state t k c)) ∙ ok)))
+    (tree-announce _ j l q .0 (subst (λ (s : Stage). Ok s j l) (tree-state t k c) ok))
+
+ring-countdown :
+    (r : ringState.State) → ringSound.Open r → {ls : List (List ℕ)} {xs : List Request} → RingSays ls xs → ringCounts.QuietBy r xs
+    → ringCounts.Unannounced r xs → RingCountdown r ls xs
+ring-countdown r running {ls} {xs} c quiet not-yet =
+    let d = ringRuns.whole-runs .point r running xs .countdown quiet not-yet in
+    record {
+      K = d .K;
+      bound = d .bound;
+      exactly = λ m k j {ls′} {ys} c′ u l q.
+          let there = ap (λ (s : Stage). stageAfter s (k + length ls) ls′) (ring-state r m k c) ∙ ring-state _ _ (k + length ls) c′ in
+          let exactly = d .counted ys u .exactly (ringRequest ringStep.Announce) refl in
+          let answer = ring-announce (runOf ringCounts.ring (runOf ringCounts.ring r xs) ys) _ j l q in
+          (λ ok. exactly .0 (answer .0 (subst (λ (s : Stage). Ok s j l) there ok)), λ n. subst (λ (s : Stage). Ok s j l) (sym there) (answer .1 (exactly .1 n)));
+    }
+
+tree-countdown :
+    (t : treeState.State) → treeSound.Open t → {ls : List (List ℕ)} {xs : List Request} → TreeSays ls xs → treeCounts.QuietBy t xs
+    → treeCounts.Unannounced t xs → (k j : ℕ) {ls′ : List (List ℕ)} {ys : List Request} → TreeSays ls′ ys
+    → treeCounts.Unannounced (runOf treeCounts.tree t xs) ys → (l : List ℕ) → Says l announce
+    → Ok (stageAfter (stageAfter (onTree t) k ls) (k + length ls) ls′) j l ↔ (length (acceptedOf treeCounts.tree (runOf treeCounts.tree t xs) ys) ≡ stepsBy t xs)
+tree-countdown t running {ls} {xs} c quiet not-yet k j {ls′} {ys} c′ u l q =
+    let there = ap (λ (s : Stage). stageAfter s (k + length ls) ls′) (tree-state t k c) ∙ tree-state _ (k + length ls) c′ in
+    let exactly = treeRuns.whole-runs .point t running xs .countdown quiet not-yet ys u .exactly (treeRequest treeStep.Announce) refl in
+    let answer = tree-announce (runOf treeCounts.tree (runOf treeCounts.tree t xs) ys) j l q in
+    (λ ok. exactly .0 (answer .0 (subst (λ (s : Stage). Ok s j l) there ok)), λ n. subst (λ (s : Stage). Ok s j l) (sym there) (answer .1 (exactly .1 n)))
 
 -- a request that is refused whatever it is
 none-taken : (v : Verdict) (x : Request) → settle v (x ∷ []) [] ≡ [] → v ≡ Accepted → ⊥
@@ -244,6 +286,8 @@ log-runs = record {
   tree-state = tree-state;
   ring-quiet = ring-quiet;
   tree-quiet = tree-quiet;
+  ring-countdown = ring-countdown;
+  tree-countdown = tree-countdown;
   ring-last = ring-last;
   tree-last = tree-last;
 }

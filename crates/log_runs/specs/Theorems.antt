@@ -1,8 +1,9 @@
 -- Demand 3 of what is printed for a log: its run is the run of the requests that its lines say, so that `WholeRuns` (crates ring_runs and
 -- tree_runs) speaks of it. The proofs are in proofs/Theorems.antt.
-use Prim.Native.Nat.{_+_, ℕ}
+use Prim.Native.Nat.{_*_, _+_, _-_, _≤_, ℕ}
 use lib.ListN.{length}
 use mathlib.Core.List.{List, _++_, _∷_}
+use mathlib.Core.Logic.{_↔_}
 use mathlib.Core.Path.{_≡_}
 use Rattle.forms.specs.Form.{Says, announce}
 use Rattle.log_rules.specs.Answers.{Stage, answerText, fresh, lineTold, onRing, onTree}
@@ -10,6 +11,7 @@ use Rattle.log_rules.specs.Output.{linesTold}
 use Rattle.log_rules.specs.Theorems.{LinesOf}
 use Rattle.refusal.specs.declared.Verdict.the-variants.{Accepted}
 use Rattle.runs.specs.Runs.{Request, acceptedOf, runOf}
+use Rattle.tree_runs.specs.WholeRun.{stepsBy}
 use Rattle.log_runs.specs.Says.{BegunOpen, RingSays, TreeSays, movesIn, printed, stageAfter}
 use Rattle.ring_rules.specs.State as ringState
 use Rattle.ring_rules.specs.Soundness as ringSound
@@ -21,6 +23,16 @@ use Rattle.tree_runs.specs.Counts as treeCounts
 -- the answer to a line, line j of a log that has come to s, is `(ok j)`
 abbrev pub Ok : Stage → ℕ → List ℕ → Type 0
 Ok s j l = lineTold s j l .text ≡ answerText j Accepted
+
+-- After the lines ls, which say xs: an announce line that comes after further lines, with no announcement accepted among them, is answered
+-- with ok exactly if as many requests of these are accepted as K says.
+pub record RingCountdown (r : ringState.State) (ls : List (List ℕ)) (xs : List Request) : Type 0 where
+  pub K : ℕ
+  pub bound : K ≤ 3 * r .n - 2
+  pub exactly :
+      (m k j : ℕ) {ls′ : List (List ℕ)} {ys : List Request} → RingSays ls′ ys → ringCounts.Unannounced (runOf ringCounts.ring r xs) ys
+      → (l : List ℕ) → Says l announce
+      → Ok (stageAfter (stageAfter (onRing r m) k ls) (k + length ls) ls′) j l ↔ (length (acceptedOf ringCounts.ring (runOf ringCounts.ring r xs) ys) ≡ K)
 
 pub record LogRuns : Type 0 where
   -- the answer to a line stands in the output behind those of the lines before it
@@ -55,3 +67,13 @@ pub record LogRuns : Type 0 where
   pub tree-last :
       (t : treeState.State) → treeSound.Open t → (k j : ℕ) {ls : List (List ℕ)} {xs : List Request} → TreeSays ls xs
       → treeCounts.Announced t xs → (l : List ℕ) → Ok (stageAfter (onTree t) k ls) j l → ⊥
+  -- once that is so, and until the announcement: one number of token moves is fixed, at most 3N - 2
+  pub ring-countdown :
+      (r : ringState.State) → ringSound.Open r → {ls : List (List ℕ)} {xs : List Request} → RingSays ls xs → ringCounts.QuietBy r xs
+      → ringCounts.Unannounced r xs → RingCountdown r ls xs
+  -- on the tree A + 2E acknowledgements and leavings
+  pub tree-countdown :
+      (t : treeState.State) → treeSound.Open t → {ls : List (List ℕ)} {xs : List Request} → TreeSays ls xs → treeCounts.QuietBy t xs
+      → treeCounts.Unannounced t xs → (k j : ℕ) {ls′ : List (List ℕ)} {ys : List Request} → TreeSays ls′ ys
+      → treeCounts.Unannounced (runOf treeCounts.tree t xs) ys → (l : List ℕ) → Says l announce
+      → Ok (stageAfter (stageAfter (onTree t) k ls) (k + length ls) ls′) j l ↔ (length (acceptedOf treeCounts.tree (runOf treeCounts.tree t xs) ys) ≡ stepsBy t xs)
