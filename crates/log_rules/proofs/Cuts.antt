@@ -8,13 +8,11 @@ use mathlib.Core.List.{List, [], _++_, _∷_, append-assoc, append-nil}
 use mathlib.Core.Path.{_∙_, _≡_, ap, refl, subst, sym}
 use native.Mathlib.Decide.{decLt}
 use native.Mathlib.Omega.{arith}
-use Rattle.first_line.proofs.Opens.{first-exact}
-use Rattle.first_line.specs.Read.{firstAt}
-use Rattle.first_line.specs.Start.{Start, startForm}
+use Rattle.first_line.proofs.Opens.{first-other}
+use Rattle.first_line.specs.Start.{startForm}
 use Rattle.forms.proofs.Lines.{line-rest}
 use Rattle.forms.proofs.Steps.{ring-not, tree-not}
 use Rattle.forms.specs.Form.{Form, Says, line, ringForm, treeForm}
-use Rattle.forms.specs.Read.{Read, other, read}
 use Rattle.log_rules.proofs.Ends.{ended-append, ended-itself, form-ended, line-ended, no-line, not-both, unended-append, unended-line}
 use Rattle.log_rules.specs.Answers.{Stage, Told, endText, fresh, lineTold, onRing, onTree, over}
 use Rattle.log_rules.specs.Lines.{lineLimit, split}
@@ -82,16 +80,9 @@ rest-over k held s = lines-over (k + 1) (take (lineLimit - k) (split held s))
 abbrev Formless : List ℕ → Type 0
 Formless l = (f : Form) → Says (line l) f → ⊥
 
-first-none : (l : List ℕ) → Formless l → firstAt l 0 ≡ other
-first-none l no-form = go (firstAt l 0) refl
-  where
-    go : (r : Read Start) → firstAt l 0 ≡ r → r ≡ other
-    go other e = refl
-    go (read f n) e = absurd (no-form (startForm f) (first-exact l 0 f n .0 e .0))
-
 formless-told : (st : Stage) (k : ℕ) (l : List ℕ) → Formless l → lineTold st k l ≡ notTold st k
 unfolding lineTold
-formless-told fresh k l h = rw (first-none l h)
+formless-told fresh k l h = rw (first-other l 0 .1 (λ f. h (startForm f)))
 formless-told (onRing r m) k l h = rw (ring-not l 0 .1 (λ f. h (ringForm f)))
 formless-told (onTree t) k l h = rw (tree-not l 0 .1 (λ f. h (treeForm f)))
 formless-told over k l h = refl

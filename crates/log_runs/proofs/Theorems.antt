@@ -1,5 +1,5 @@
 -- The statement of specs/Theorems.antt, proved. Assumes nothing.
-use Prim.Native.Nat.{_+_, ℕ}
+use Prim.Native.Nat.{_+_, suc, zero, ℕ}
 use borrow.Author.Tests.{leb-true, ltb-true, not-false}
 use lib.ListN.{getD, length, take}
 use mathlib.Core.Bool.{Bool, _&&_, cond, false, true}
@@ -82,6 +82,16 @@ output s k (x ∷ ls) l rest =
     ∙ ap (λ (n : ℕ). (t .text ++ printed (t .stage) (k + 1) ls) ++ after n) e)
 
 -- ---- what the lines say
+
+taken : {s : List ℕ} {ls : List (List ℕ)} → LinesOf s ls → (n : ℕ) → (s′ : List ℕ) × LinesOf s′ (take n ls)
+taken c zero = ([], lines.no-line)
+taken lines.no-line (suc n) = ([], lines.no-line)
+taken (lines.last {l} u h) (suc n) = go n
+  where
+    go : (m : ℕ) → (s′ : List ℕ) × LinesOf s′ (l ∷ take m [])
+    go zero = (l, lines.last u h)
+    go (suc m) = (l, lines.last u h)
+taken (lines.another {l} o c) (suc n) = let w = taken c n in (l ++ w .0, lines.another o (w .1))
 
 ring-asks : {s : List ℕ} {ls : List (List ℕ)} → LinesOf s ls → (xs : List Request) × RingSays ls xs
 ring-asks lines.no-line = ([], says.RingSays.no-line)
@@ -280,6 +290,7 @@ pub log-runs : LogRuns
 log-runs = record {
   output = output;
   first = first;
+  taken = taken;
   ring-asks = ring-asks;
   tree-asks = tree-asks;
   ring-state = ring-state;

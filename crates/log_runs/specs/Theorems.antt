@@ -1,7 +1,7 @@
 -- Demand 3 of what is printed for a log: its run is the run of the requests that its lines say, so that `WholeRuns` (crates ring_runs and
 -- tree_runs) speaks of it. The proofs are in proofs/Theorems.antt.
 use Prim.Native.Nat.{_*_, _+_, _-_, _≤_, ℕ}
-use lib.ListN.{length}
+use lib.ListN.{length, take}
 use mathlib.Core.List.{List, _++_, _∷_}
 use mathlib.Core.Logic.{_↔_}
 use mathlib.Core.Path.{_≡_}
@@ -42,7 +42,8 @@ pub record LogRuns : Type 0 where
       ≡ printed s k ls ++ (lineTold (stageAfter s k ls) (k + length ls) l .text ++ linesTold (lineTold (stageAfter s k ls) (k + length ls) l .stage) (k + length ls + 1) rest)
   -- the first line begins an open run, or none
   pub first : (l : List ℕ) → BegunOpen (lineTold fresh 1 l .stage)
-  -- the lines of every log say requests
+  -- the lines that are read of a log, its first n, are the lines of a text too; and the lines of every text say requests
+  pub taken : {s : List ℕ} {ls : List (List ℕ)} → LinesOf s ls → (n : ℕ) → (s′ : List ℕ) × LinesOf s′ (take n ls)
   pub ring-asks : {s : List ℕ} {ls : List (List ℕ)} → LinesOf s ls → (xs : List Request) × RingSays ls xs
   pub tree-asks : {s : List ℕ} {ls : List (List ℕ)} → LinesOf s ls → (xs : List Request) × TreeSays ls xs
   -- and the log comes to what these requests lead to; "moves are accepted token moves"

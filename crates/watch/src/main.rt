@@ -85,6 +85,6 @@ fn main() {
     let log = s.log;
     let count = log_finish::finish(log, &line, &mut out);
     if !io::write_all(libc::STDOUT_FILENO, &out[..count]) {
-        io::write_all(libc::STDERR_FILENO, b"watch: a write failed\n");
+        io::write_all(libc::STDERR_FILENO, b"watch: a read or a write failed\n");
     }
 }
