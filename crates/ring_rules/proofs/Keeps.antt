@@ -10,7 +10,7 @@ use native.Mathlib.Decide.{decLt, ℕ-discrete}
 use native.Mathlib.Omega.{arith}
 use Rattle.color.proofs.Colors.{blackened-other, blackened-same, length-blackened, length-whitened, whitened-other}
 use Rattle.laws.proofs.Places.{total-at, total-set-ge, total-set-in, total-set-out}
-use Rattle.laws.proofs.Tests.{false-true}
+use Rattle.laws.proofs.Tests.{false-true, left-true}
 use Rattle.laws.specs.Places.{total}
 use Rattle.signed.proofs.Parts.{dn, sum-parts, sum-size, up}
 use Rattle.ring_rules.proofs.Accepted.{Conclusion, Rule, announces, idles, passes, probes, sends, takes, true-conclusive}
@@ -258,7 +258,7 @@ module _ (r : State) (s : Sound r) (running : r .closed ≡ false) where
     pass-safra (black-node k h b) = go (ℕ-discrete k (r .pos))
       where
         go : Dec (k ≡ r .pos) → Safra (passOf r (r .pos))
-        go (yes p) = black-token (rw (← p, b))
+        go (yes p) = black-token (left-true (r .black) (ap (blackAt r) (sym p) ∙ b))
         go (no p) = black-node k (omega arith) (whitened-other (r .color) (r .pos) (in-color (r .pos) (s .holder)) k p ∙ b)
     pass-safra (black-token b) = black-token (go (blackAt r (r .pos)))
       where
@@ -350,5 +350,5 @@ module _ (r : State) (s : Sound r) (running : r .closed ≡ false) where
   keeps Idle i j (idles hi act) = idle-sound i hi
   keeps Probe i j (probes z ag) = probe-sound
   keeps Pass i j (passes hi lo e idle) =
-      subst (λ (x : ℕ). Sound (passOf r x)) (sym e) (pass-sound (rw e at lo) (rw e at idle))
+      subst (λ (x : ℕ). Sound (passOf r x)) (sym e) (pass-sound (rw e at lo) (subst (λ (x : ℕ). activeAt r x ≡ false) e idle))
   keeps Announce i j (announces c) = announce-sound c

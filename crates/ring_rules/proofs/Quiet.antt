@@ -202,7 +202,7 @@ module _ (r : State) (s : Sound r) (quiet : Quiet r) where
     pass-clean : Clean r → Clean (passOf r (r .pos))
     pass-clean c =
         record {
-          token = rw (c .white (r .pos) (omega arith), c .token);
+          token = λ x. c .white (r .pos) (omega arith) x || c .token x;
           white = λ i h. other i (omega arith) ∙ c .white i (omega arith);
           level = omega (arith, c .level, gain, ap (total (r .sent)) next, ap (total (r .received)) next);
         }

@@ -157,16 +157,17 @@ fn place_ok<'a>(
     requires { ⌜ (i < 16) × Shape (whole r (now active) (now engager) (now unacked) (now transit) (now acks)) ⌝ }
     ensures { λ b. ⌜ b ≡ placeTest (whole r (now (active .entry)) (now (engager .entry)) (now (unacked .entry)) (now (transit .entry)) (now (acks .entry))) i ⌝ }
 {
+    let root = r.root;
     let e = engager_of(engager, i);
     let end = chain_end(engager, i);
     let from = messages_from(transit, i);
-    let under = children_of(r.root, engager, i);
+    let under = children_of(root, engager, i);
     let owed = from + wide(acks[i]) + under;
     let balanced = wide(unacked[i]) == owed;
     let rest = (e != 16) | (!active[i] & (unacked[i] == 0));
     let pairs = pairs_ok(r, active, engager, unacked, transit, acks, i);
     let nodes = !(e != 16) | ((i < r.n) & (e < r.n));
-    nodes & ((!(e != 16) | (end == r.root)) & (balanced & (rest & pairs)))
+    nodes & ((!(e != 16) | (end == root)) & (balanced & (rest & pairs)))
 }
 
 // Do all places pass?

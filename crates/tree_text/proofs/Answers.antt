@@ -3,15 +3,15 @@ use Prim.Native.Nat.{_+_, _<_, _≤_, ℕ}
 use borrow.Author.Tests.{le-ltb, lt-ltb, ltb-false}
 use lib.ListN.{drop, getD, length, take}
 use lib.Seq.{take-append-seam}
-use mathlib.Core.Bool.{false, true}
-use mathlib.Core.List.{List, _++_}
+use mathlib.Core.Bool.{false, not, true}
+use mathlib.Core.List.{List, [], _++_, _∷_}
 use mathlib.Core.Logic.{inl, inr}
 use mathlib.Core.Path.{_∙_, _≡_, ap}
 use native.Mathlib.Omega.{arith}
 use Rattle.decimal.proofs.Put.{put-length, put-past, put-stands}
 use Rattle.decimal.specs.Text.{put}
 use Rattle.refusal.proofs.Table.{accepts, first-row, none-holds}
-use Rattle.refusal.specs.Table.{NoneHolds, also, none}
+use Rattle.refusal.specs.Table.{NoneHolds, _⟶_, also, firstOf, none}
 use Rattle.refusal.specs.declared.Refusal.{Refusal}
 use Rattle.refusal.specs.declared.Refusal.the-variants.{ShortBuffer, Unsound}
 use Rattle.refusal.specs.declared.Verdict.the-variants.{Accepted, Refused}
@@ -47,11 +47,11 @@ module _ (t : State) (b : List ℕ) where
 
   pub short : soundTest t ≡ true → length b < length (stateText t) → writeVerdict t b ≡ Refused ShortBuffer
   unfolding writeVerdict
-  short h k = rw (h, lt-ltb (length b) (length (stateText t)) k)
+  short h k = λ x. firstOf ((not (h x) ⟶ Unsound) ∷ (lt-ltb (length b) (length (stateText t)) k x ⟶ ShortBuffer) ∷ [])
 
   pub fits : soundTest t ≡ true → length (stateText t) ≤ length b → writeVerdict t b ≡ Accepted
   unfolding writeVerdict
-  fits h k = rw (h, le-ltb (length b) (length (stateText t)) k)
+  fits h k = λ x. firstOf ((not (h x) ⟶ Unsound) ∷ (le-ltb (length b) (length (stateText t)) k x ⟶ ShortBuffer) ∷ [])
 
   -- ---- what an acceptance says
 

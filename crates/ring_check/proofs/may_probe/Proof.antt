@@ -1,4 +1,6 @@
 use borrow.Author.Needs.{needs}
+use lib.Dec.{eqb}
+use mathlib.Core.Bool.{_&&_, _||_}
 use mir.Facts.{toZ-ofZ}
 use mir.Syntax.{w64}
 use mir.Val.{SFits}
@@ -27,8 +29,11 @@ is-black-requires c κs = search needs
 
 returns : tie.Need-returns
 unfolding mayProbe
-returns c = let f : SFits w64 (c .before .before .before .before .before .before .before .before .before .args .r .q) = search needs in
-    rw (c .before .before .is-black .ensures, c .before .before .before .is-positive-with .ensures, c .before .before .before .before .before .before .before .wide .ensures .0, c .before .before .before .before .before .wide2 .ensures .0, toZ-ofZ f)
+returns c =
+    let r = c .before .before .before .before .before .before .before .before .before .args .r in
+    let f : SFits w64 (r .q) = search needs in
+    let sum = rw (c .before .before .before .before .before .before .before .wide .ensures .0, c .before .before .before .before .before .wide2 .ensures .0, toZ-ofZ f) at (c .before .before .before .is-positive-with .ensures) in
+    λ x. eqb (r .pos) 0 && (r .black || (c .before .before .is-black .ensures x || sum x))
 
 pub may-probe-spec : {M : Type 1} → statement M
 may-probe-spec =

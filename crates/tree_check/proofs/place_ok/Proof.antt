@@ -53,7 +53,7 @@ pairs-ok-requires c κs = search needs
 
 returns : tie.Need-returns
 unfolding placeTest engagerTest chainTest balanceTest restTest
-returns c = rw (c .before .before .before .before .before .before .before .before .before .before .before .before .before .engager-of .ensures .0, c .before .before .before .before .before .before .before .before .before .before .before .before .chain-end .ensures, c .before .before .before .before .before .before .before .before .before .before .before .messages-from .ensures .0, c .before .before .before .before .before .before .before .before .before .before .children-of .ensures .0, c .before .before .before .before .before .before .before .before .wide .ensures .0, c .before .before .before .before .before .before .wide2 .ensures .0, c .before .before .before .pairs-ok .ensures)
+returns c = rw (c .before .before .before .before .before .before .before .before .before .before .before .before .engager-of .ensures .0, c .before .before .before .before .before .before .before .before .before .before .before .chain-end .ensures, c .before .before .before .before .before .before .before .before .before .before .messages-from .ensures .0, c .before .before .before .before .before .before .before .before .before .children-of .ensures .0, c .before .before .before .before .before .before .before .wide .ensures .0, c .before .before .before .before .before .wide2 .ensures .0, c .before .before .pairs-ok .ensures)
 
 pub place-ok-spec : {M : Type 1} → statement M
 place-ok-spec =
