@@ -12,6 +12,7 @@ use Rattle.color.specs.Colors.{blackened, isBlack, whitened}
 use Rattle.laws.proofs.Places.{all-at}
 use Rattle.laws.proofs.Tests.{both}
 use Rattle.laws.specs.Places.{allTo}
+use Rattle.laws.specs.Sums.{sumTo}
 use Rattle.ring_rules.proofs.Accepted.{Rule, announces, idles, passes, probes, sends, takes}
 use Rattle.ring_rules.proofs.Theorems.{sound-kept, sound-tested, start-answered}
 use Rattle.ring_rules.specs.Answers.{verdictOf}
@@ -94,7 +95,7 @@ module _ (r : State) (xs : List Request) where
       }
 
 pub instances : Instances
-unfolding numbers runOf acceptedOf isBlack blackened whitened _⊖_ isPositive isZero isSame conclusive mayProbe mayPass shapeTest rangeTest flowTest sumTest passiveAbove whiteTo gatheredTest safraTest unusedTest closedTest soundTest verdictOf activeFrom colorFrom firstState blank flagsTest startVerdict startOf
+unfolding sumTo numbers runOf acceptedOf isBlack blackened whitened _⊖_ isPositive isZero isSame conclusive mayProbe mayPass shapeTest rangeTest flowTest sumTest passiveAbove whiteTo gatheredTest safraTest unusedTest closedTest soundTest verdictOf activeFrom colorFrom firstState blank flagsTest startVerdict startOf
 instances =
     let first-open : Open first = sound-kept .start 3 startFlags refl in
     let first-quiet : QuietPoint first requests = quiet-point first requests refl refl in

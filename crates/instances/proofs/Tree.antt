@@ -9,8 +9,8 @@ use mathlib.Core.List.{List, [], _++_, _∷_}
 use mathlib.Core.Path.{_∙_, _≡_, ap, refl, subst, sym}
 use native.Mathlib.Omega.{arith}
 use Rattle.laws.proofs.Places.{all-at}
-use Rattle.laws.specs.Places.{allTo, countTo}
-use Rattle.laws.specs.Sums.{sumTo}
+use Rattle.laws.specs.Places.{allTo}
+use Rattle.laws.specs.Sums.{countTo, sumTo}
 use Rattle.runs.proofs.Runs.{run-keeps, run-of}
 use Rattle.runs.specs.Runs.{Accepts, Request, acceptedOf, runOf}
 use Rattle.tree_rules.proofs.Accepted.{Rule, acknowledges, announces, idles, leaves, sends, takes}

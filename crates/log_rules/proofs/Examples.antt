@@ -7,8 +7,7 @@ use Rattle.decimal.specs.Word.{starts}
 use Rattle.first_line.specs.Read.{entriesOf, entryOf, firstAt, listsAt, ringAfter, rootAfter, startAt, treeAfter}
 use Rattle.forms.specs.Form.{line}
 use Rattle.forms.specs.Read.{closedOf, madeOf, oneOf, readBy, ringAt, secondOf, spacedOf, treeAt, twoOf}
-use Rattle.laws.specs.Places.{countTo}
-use Rattle.laws.specs.Sums.{sumTo}
+use Rattle.laws.specs.Sums.{countTo, sumTo}
 use Rattle.ring_rules.specs.Answers.{answerOf, verdictOf}
 use Rattle.ring_rules.specs.Rules.{conclusive, mayPass, mayProbe}
 use Rattle.ring_rules.specs.Soundness.{closedTest, flowTest, gatheredTest, passiveAbove, rangeTest, safraTest, shapeTest, soundTest, sumTest, unusedTest, whiteTo}

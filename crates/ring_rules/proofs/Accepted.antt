@@ -6,7 +6,7 @@ use mathlib.Core.Bool.{_||_, false, not, true}
 use mathlib.Core.Logic.{⊎-elim}
 use mathlib.Core.Path.{_≡_, ap, refl, sym}
 use Rattle.laws.proofs.Tests.{both, both-true, false-true, left-true, neither, not-eq, one-of, right-true}
-use Rattle.laws.specs.Places.{total}
+use Rattle.laws.specs.Sums.{total}
 use Rattle.refusal.proofs.Table.{accepts, none-holds}
 use Rattle.refusal.specs.Table.{NoneHolds, also, none, sendLimit}
 use Rattle.refusal.specs.declared.Verdict.the-variants.{Accepted}

@@ -9,9 +9,9 @@ use mathlib.Core.Path.{_∙_, _≡_, ap, refl, subst, sym}
 use native.Mathlib.Decide.{decLt, ℕ-discrete}
 use native.Mathlib.Omega.{arith}
 use Rattle.color.proofs.Colors.{blackened-other, blackened-same, length-blackened, length-whitened, whitened-other}
-use Rattle.laws.proofs.Places.{total-at, total-set-ge, total-set-in, total-set-out}
+use Rattle.laws.proofs.Sums.{total-at, total-set-ge, total-set-in, total-set-out}
 use Rattle.laws.proofs.Tests.{false-true, left-true}
-use Rattle.laws.specs.Places.{total}
+use Rattle.laws.specs.Sums.{sumTo, total}
 use Rattle.signed.proofs.Parts.{dn, sum-parts, sum-size, up}
 use Rattle.ring_rules.proofs.Accepted.{Conclusion, Rule, announces, idles, passes, probes, sends, takes, true-conclusive}
 use Rattle.ring_rules.proofs.Sums.{Above, Gathered, above-by, above-of, gathered-by, gathered-of}
@@ -247,6 +247,7 @@ module _ (r : State) (s : Sound r) (running : r .closed ≡ false) where
         go (no p) = f k (omega arith) hi
 
     pass-safra : Safra r → Safra (passOf r (r .pos))
+    unfolding sumTo
     pass-safra (gathered f e) =
         gathered (pass-idle f)
         (gathered-by (passOf r (r .pos)) in-range

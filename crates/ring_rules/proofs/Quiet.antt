@@ -9,9 +9,10 @@ use mathlib.Core.Path.{_∙_, _≡_, ap, refl, subst, sym}
 use native.Mathlib.Decide.{decLt, ℕ-discrete}
 use native.Mathlib.Omega.{arith}
 use Rattle.color.proofs.Colors.{whitened-other, whitened-same}
-use Rattle.laws.proofs.Places.{all-at, all-from, total-at, total-none}
+use Rattle.laws.proofs.Places.{all-at, all-from}
+use Rattle.laws.proofs.Sums.{total-at, total-none}
 use Rattle.laws.proofs.Tests.{both, both-true, false-true, neither, one-of, same-test, split}
-use Rattle.laws.specs.Places.{total}
+use Rattle.laws.specs.Sums.{sumTo, total}
 use Rattle.signed.proofs.Parts.{dn, sum-parts, up}
 use Rattle.ring_rules.proofs.Accepted.{Again, Conclusion, Rule, announces, idles, passes, probes, sends, sum-above, takes, token-black, zero-black}
 use Rattle.ring_rules.proofs.Soundness.{true-white, white-true}
@@ -200,6 +201,7 @@ module _ (r : State) (s : Sound r) (quiet : Quiet r) where
     other i ne = whitened-other (r .color) (r .pos) (in-color (r .pos) (s .holder)) i ne
 
     pass-clean : Clean r → Clean (passOf r (r .pos))
+    unfolding sumTo
     pass-clean c =
         record {
           token = λ x. c .white (r .pos) (omega arith) x || c .token x;
@@ -208,6 +210,7 @@ module _ (r : State) (s : Sound r) (quiet : Quiet r) where
         }
 
     clean-pass : Clean (passOf r (r .pos)) → Clean r
+    unfolding sumTo
     clean-pass c =
         let p = neither (blackAt r (r .pos)) (r .black) (c .token) in
         record {

@@ -4,8 +4,8 @@ use lib.IntN.{_+ℤ_}
 use mathlib.Core.Bool.{true}
 use mathlib.Core.Path.{_≡_}
 use native.Mathlib.Omega.{arith}
-use Rattle.laws.proofs.Places.{total-mono}
-use Rattle.laws.specs.Places.{total}
+use Rattle.laws.proofs.Sums.{total-mono}
+use Rattle.laws.specs.Sums.{sumTo, total}
 use Rattle.signed.proofs.Parts.{diff-is, dn, is-diff, positive-sum, sum-positive, sum-zero, up, zero-sum}
 use Rattle.signed.specs.Integers.{isPositive, isZero}
 use Rattle.ring_rules.specs.State.{State, counter, countersAbove, countersTo, receivedAt, sentAt}
@@ -38,15 +38,19 @@ module _ (r : State) where
 
   -- node 0's counter alone
   pub above-zero-of : isPositive (r .q +ℤ counter r 0) ≡ true → Above r 1
+  unfolding sumTo
   above-zero-of e = omega (arith, positive-sum (r .q) (sentAt r 0) (receivedAt r 0) e)
 
   pub above-zero-by : Above r 1 → isPositive (r .q +ℤ counter r 0) ≡ true
+  unfolding sumTo
   above-zero-by h = sum-positive (r .q) (sentAt r 0) (receivedAt r 0) (omega arith)
 
   pub level-zero-of : isZero (r .q +ℤ counter r 0) ≡ true → Level r 1
+  unfolding sumTo
   level-zero-of e = omega (arith, zero-sum (r .q) (sentAt r 0) (receivedAt r 0) e)
 
   pub level-zero-by : Level r 1 → isZero (r .q +ℤ counter r 0) ≡ true
+  unfolding sumTo
   level-zero-by h = sum-zero (r .q) (sentAt r 0) (receivedAt r 0) (omega arith)
 
   module _ (holder : r .pos < r .n) where

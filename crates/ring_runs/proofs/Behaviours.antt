@@ -6,7 +6,7 @@ use mathlib.Core.List.{List, [], _++_, _∷_}
 use mathlib.Core.Path.{_∙_, _≡_, ap, refl, subst, sym}
 use native.Mathlib.Bridge.{le-prop}
 use native.Mathlib.Omega.{arith}
-use Rattle.laws.proofs.Places.{total-set-in, total-zeros}
+use Rattle.laws.proofs.Sums.{total-set-in, total-zeros}
 use Rattle.refusal.specs.Table.{sendLimit, settle}
 use Rattle.refusal.specs.declared.Verdict.{Verdict}
 use Rattle.refusal.specs.declared.Verdict.the-variants.{Accepted}

@@ -5,7 +5,7 @@ use lib.ListN.{length}
 use mathlib.Core.Bool.{_||_, false, true}
 use mathlib.Core.Path.{_∙_, _≡_, ap, refl, sym}
 use native.Mathlib.Omega.{arith}
-use Rattle.laws.specs.Places.{total}
+use Rattle.laws.specs.Sums.{total}
 use Rattle.ring_rules.proofs.Accepted.{Again, Conclusion, Rule, announces, idles, passes, probes, sends, sum-above, takes, token-black, zero-black}
 use Rattle.ring_rules.specs.Rules.{Announce, Idle, Kind, Pass, Probe, Send, Take, effect}
 use Rattle.ring_rules.specs.Soundness.{Sound}

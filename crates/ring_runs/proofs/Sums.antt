@@ -11,9 +11,9 @@ use mathlib.Core.Path.{_∙_, _≡_, ap, refl, sym}
 use native.Mathlib.Decide.{decLt}
 use native.Mathlib.Nat.{le-of-suc-le, le-refl}
 use native.Mathlib.Omega.{arith}
-use Rattle.laws.proofs.Places.{total-none}
+use Rattle.laws.proofs.Sums.{total-none}
 use Rattle.laws.proofs.Tests.{both, both-true, split}
-use Rattle.laws.specs.Places.{total}
+use Rattle.laws.specs.Sums.{sumTo, total}
 use Rattle.ring_rules.proofs.Sums.{Gathered, gathered-by, gathered-of}
 use Rattle.ring_rules.specs.Soundness.{Safra, Sound, black-node, black-token, gathered, positive}
 use Rattle.ring_rules.specs.State.{State, activeAt, countersTo}
@@ -25,8 +25,7 @@ use Rattle.ring_runs.specs.EWD998.{B, Inv, Node, P1-to-P4, Rng, Sum, Ter
 use Rattle.ring_runs.specs.View.{colorOf, varsOf}
 
 empty-total : (m : ℕ) → total [] m ≡ 0
-empty-total zero = refl
-empty-total (suc m) = omega (arith, empty-total m)
+empty-total m = total-none [] m (λ i _. refl)
 
 -- The sum of f over a set of nodes that holds those from a to b - 1, where f i is x's place i less y's.
 module _ {N : ℕ} (some-node : 0 < N) (x y : List ℕ) (f : Node N → ℤ) (value : (i : Node N) → up (f i) + getD y (i .nr) 0 ≡ dn (f i) + getD x (i .nr) 0)
@@ -36,7 +35,7 @@ module _ {N : ℕ} (some-node : 0 < N) (x y : List ℕ) (f : Node N → ℤ) (va
   Level c z = up z + total y c + total x a ≡ dn z + total x c + total y a
 
   level : (m : ℕ) (h : m ≤ N) → Level (max a (min m b)) (sumBelow some-node f S m h)
-  unfolding sumBelow
+  unfolding sumBelow sumTo
   level zero h = let e : max a (min 0 b) ≡ a = omega arith in rw e (omega arith)
   level (suc m) h = go (level m (le-of-suc-le h)) (decLt m a) (decLt m b)
     where
@@ -73,16 +72,19 @@ module _ (r : State) (some-node : 0 < r .n) (holder : r .pos < r .n) where
 
   -- the counters of all nodes, of those up to the token, and of those above it
   sum-all : up (Sum some-node (s .counter) (everyNode some-node)) + total (r .received) (r .n) ≡ dn (Sum some-node (s .counter) (everyNode some-node)) + total (r .sent) (r .n)
+  unfolding sumTo
   sum-all =
       omega
       (arith, sum-level some-node (r .sent) (r .received) (s .counter) counted (everyNode some-node) 0 (r .n) (omega arith) (λ i h. absurd (omega arith)) (λ i h k. refl) (λ i h. absurd (omega (arith, i .below))) (le-refl (r .n)))
 
   sum-pending : up (B some-node s) ≡ dn (B some-node s) + total (r .pending) (r .n)
+  unfolding sumTo
   sum-pending =
       omega
       (arith, empty-total (r .n), empty-total 0, sum-level some-node (r .pending) [] (λ i. pos (s .pending i)) (λ i. omega arith) (everyNode some-node) 0 (r .n) (omega arith) (λ i h. absurd (omega arith)) (λ i h k. refl) (λ i h. absurd (omega (arith, i .below))) (le-refl (r .n)))
 
   sum-low : Sum some-node (s .counter) (Rng some-node 0 (r .pos)) ≡ countersTo r (suc (r .pos))
+  unfolding sumTo
   sum-low =
       same-parts _ _
       (omega

@@ -4,8 +4,7 @@ use lib.Dec.{eqb}
 use lib.ListN.{getD}
 use mathlib.Core.Bool.{Bool, _&&_, false, not}
 use mathlib.Core.List.{List}
-use Rattle.laws.specs.Places.{countTo}
-use Rattle.laws.specs.Sums.{sumTo}
+use Rattle.laws.specs.Sums.{countTo, sumTo}
 
 -- Columns have a place for each of 16 nodes, `transit` one for each pair: the messages in transit from i to k stand at i * 16 + k.
 -- `engager` is 16 where a node has none; `acks` are the acknowledgements on their way to a node, `sends` the accepted sends.

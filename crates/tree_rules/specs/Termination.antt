@@ -3,8 +3,7 @@ use Prim.Native.Nat.{_*_, _+_, _<_, ℕ}
 use lib.Dec.{eqb}
 use mathlib.Core.Bool.{Bool, _&&_, false, not}
 use mathlib.Core.Path.{_≡_}
-use Rattle.laws.specs.Places.{countTo}
-use Rattle.laws.specs.Sums.{sumTo}
+use Rattle.laws.specs.Sums.{countTo, sumTo}
 use Rattle.tree_rules.specs.Rules.{Ack, Kind, Leave}
 use Rattle.tree_rules.specs.State.{State, acksAt, activeAt, engaged, transitAt}
 

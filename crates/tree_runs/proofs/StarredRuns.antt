@@ -1,8 +1,7 @@
 -- The starred runs, by one computation over the definitions. Assumes nothing.
 use mathlib.Core.Bool.{true}
 use mathlib.Core.Path.{_≡_, refl}
-use Rattle.laws.specs.Places.{countTo}
-use Rattle.laws.specs.Sums.{sumTo}
+use Rattle.laws.specs.Sums.{countTo, sumTo}
 use Rattle.runs.specs.Runs.{acceptedOf, runOf}
 use Rattle.tree_rules.specs.Answers.{verdictOf}
 use Rattle.tree_rules.specs.Rules.{conclusive, mayLeave}

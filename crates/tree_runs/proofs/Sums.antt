@@ -8,7 +8,7 @@ use mathlib.Core.Path.{_∙_, _≡_, ap, fun-ext, refl, sym}
 use native.Mathlib.Decide.{ℕ-discrete}
 use native.Mathlib.Nat.{le-of-suc-le, le-refl}
 use native.Mathlib.Omega.{arith}
-use Rattle.laws.proofs.Sums.{count-sum, sum-zero}
+use Rattle.laws.proofs.Sums.{count-sum, sum-short, sum-zero}
 use Rattle.laws.specs.Sums.{sumTo}
 use Rattle.tree_rules.proofs.Chains.{climb-outside}
 use Rattle.tree_rules.proofs.Facts.{Facts, facts, in-range, root-16, true-engaged}
@@ -21,20 +21,11 @@ use Rattle.tree_runs.specs.Agreement.{rootOf, shown}
 use Rattle.tree_runs.specs.DijkstraScholten.{A1, Addr, B1, B2, B3, Path, edge, isAddr, numDAT, oneEdge, start, sum, sumBelow}
 use Rattle.tree_runs.specs.View.{engagerOf}
 
--- a sum over addresses is one over numbers; places from n on that hold nothing change no sum
+-- a sum over addresses is one over numbers
 sum-is : {N : ℕ} (f : ℕ → ℕ) (m : ℕ) (h : m ≤ N) → sumBelow (λ (k : Addr N). f (k .nr)) m h ≡ sumTo m f
 unfolding sumBelow sumTo
 sum-is f zero h = refl
 sum-is f (suc m) h = ap (λ (x : ℕ). x + f m) (sum-is f m (le-of-suc-le h))
-
-sum-short : (f : ℕ → ℕ) (n m : ℕ) → n ≤ m → ((j : ℕ) → n ≤ j → j < m → f j ≡ 0) → sumTo m f ≡ sumTo n f
-unfolding sumTo
-sum-short f n zero h z = let e : n ≡ 0 = omega arith in sym (ap (λ (x : ℕ). sumTo x f) e)
-sum-short f n (suc m) h z =
-    elim (ℕ-discrete n (suc m)) [
-      | yes e ↦ sym (ap (λ (x : ℕ). sumTo x f) e)
-      | no e ↦ omega (arith, sum-short f n m (omega arith) (λ j lo hj. z j lo (omega arith)), z m (omega arith) (omega arith))
-    ]
 
 module _ (t : State) (ok : Sound t) where
   f : Facts t
@@ -52,7 +43,7 @@ module _ (t : State) (ok : Sound t) where
   unfolding messagesFrom
   messages-are j =
       sum-is (λ (k : ℕ). transitAt t (j .nr) k) (t .n) (le-refl (t .n))
-      ∙ sym (sum-short (λ (k : ℕ). transitAt t (j .nr) k) (t .n) 16 (ok .nodes) (λ k lo h. ok .unused k lo h .no-messages (j .nr) (low j) .1))
+      ∙ sym (sum-short (t .n) 16 (λ (k : ℕ). transitAt t (j .nr) k) (ok .nodes) (λ k lo h. ok .unused k lo h .no-messages (j .nr) (low j) .1))
 
   edge-is : (j : ℕ) (e : ℕ) → j < 16 → isAddr a0 j (engagerOf e) ≡ eqb e j
   edge-is j e h =
@@ -66,7 +57,7 @@ module _ (t : State) (ok : Sound t) where
   edges-are j =
       ap (λ (g : Addr (t .n) → ℕ). sum g)
       (fun-ext (λ (k : Addr (t .n)). ap (λ (b : Bool). cond {A = ℕ} (not (eqb (k .nr) (t .root)) && b) 1 0) (edge-is (j .nr) (engagerAt t (k .nr)) (low j))))
-      ∙ (sum-is one (t .n) (le-refl (t .n)) ∙ (sym (sum-short one (t .n) 16 (ok .nodes) none-above) ∙ sym (count-sum 16 (isChild (t .root) (t .engager) (j .nr)))))
+      ∙ (sum-is one (t .n) (le-refl (t .n)) ∙ (sym (sum-short (t .n) 16 one (ok .nodes) none-above) ∙ sym (count-sum 16 (isChild (t .root) (t .engager) (j .nr)))))
     where
       one : ℕ → ℕ
       one k = cond (isChild (t .root) (t .engager) (j .nr) k) 1 0

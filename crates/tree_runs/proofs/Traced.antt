@@ -5,7 +5,7 @@ use mathlib.Core.Bool.{Bool, _&&_, _||_, false, not, true}
 use mathlib.Core.List.{List, [], _∷_}
 use mathlib.Core.Path.{_∙_, _≡_, ap, fun-ext, refl, sym}
 use native.Mathlib.Omega.{arith}
-use Rattle.laws.proofs.Places.{count-same}
+use Rattle.laws.proofs.Sums.{count-same}
 use Rattle.laws.proofs.Tests.{false-true, or-move}
 use Rattle.runs.proofs.Runs.{Run, kept, run-of, stop, took}
 use Rattle.runs.specs.Runs.{Accepts, Request, acceptedOf, runOf}

@@ -4,7 +4,7 @@ use lib.Dec.{eqb}
 use mathlib.Core.Bool.{Bool, _&&_, _||_, cond, false, not, true}
 use mathlib.Core.List.{List, [], _∷_}
 use mathlib.Core.Path.{_≡_}
-use Rattle.laws.specs.Places.{countTo}
+use Rattle.laws.specs.Sums.{countTo}
 use Rattle.runs.specs.Runs.{Machine, Request, acceptedOf}
 use Rattle.tree_rules.specs.Answers.{verdictOf}
 use Rattle.tree_rules.specs.Rules.{Ack, Announce, Idle, Kind, Leave, Send, Take, Unknown, effect, kindOf}

@@ -7,10 +7,9 @@ use mathlib.Core.Bool.{Bool, cond, false, true}
 use mathlib.Core.List.{List}
 use mathlib.Core.Logic.{_≢_}
 use mathlib.Core.Path.{_∙_, _≡_, ap, refl, sym}
-use native.Mathlib.Nat.{add-suc, add-zero}
 use native.Mathlib.Omega.{arith}
 use Rattle.decimal.specs.Text.{decimal, digits}
-use Rattle.laws.proofs.Sums.{sum-le, sum-same}
+use Rattle.laws.proofs.Sums.{sum-le, sum-mono, sum-same, sum-short}
 use Rattle.laws.specs.Sums.{sumTo}
 use Rattle.tree_text.proofs.Lists.{alone-places, list-length, root-share}
 use Rattle.tree_text.proofs.Printed.{node-next}
@@ -41,17 +40,9 @@ module _ (n : ℕ) (e : List ℕ) (root : ℕ) (T : EngagementTree n e root) whe
   tree-length = omega (arith, shares)
 
   -- places from n on have no share
-  none-past : (m : ℕ) → n + m ≤ 16 → sumTo (n + m) (share e) ≡ sumTo n (share e)
-  unfolding sumTo share
-  none-past zero h = ap (λ (x : ℕ). sumTo x (share e)) (add-zero n)
-  none-past (suc m) h =
-      let none-at : share e (n + m) ≡ 0 = rw (eq-eqb _ _ (T .unused (n + m) (omega arith) (omega arith))) in
-      ap (λ (x : ℕ). sumTo x (share e)) (add-suc n m) ∙ omega (arith, none-past m (omega arith), none-at)
-
   below : sumTo 16 (share e) ≡ sumTo n (share e)
-  below =
-      let p : n + (16 - n) ≡ 16 = omega (arith, T .nodes) in
-      ap (λ (x : ℕ). sumTo x (share e)) (sym p) ∙ none-past (16 - n) (omega (arith, T .nodes))
+  unfolding share
+  below = sum-short n 16 (share e) (T .nodes) (λ j lo h. rw (eq-eqb _ _ (T .unused j lo h)))
 
   at-most : (i : ℕ) → share e i ≤ full i
   unfolding share full
@@ -70,20 +61,13 @@ module _ (n : ℕ) (e : List ℕ) (root : ℕ) (T : EngagementTree n e root) whe
   tree-full h =
       omega (arith, shares, below, sum-same n (share e) full (λ j l. rw (ne-eqb (getD e j 16) 16 (h j l))))
 
-grows : (n m : ℕ) → sumTo n full ≤ sumTo (n + m) full
-unfolding sumTo
-grows n zero = let p : n + 0 ≡ n = add-zero n in omega (arith, ap (λ (x : ℕ). sumTo x full) p)
-grows n (suc m) = omega (arith, ap (λ (x : ℕ). sumTo x full) (add-suc n m), grows n m)
-
 seventy : sumTo 16 full ≡ 70
 unfolding sumTo full decimal digits
 seventy = refl
 
 pub longest-most : (n : ℕ) → n ≤ 16 → longest n ≤ 69
 unfolding longest full
-longest-most n h =
-    let p : n + (16 - n) ≡ 16 = omega arith in
-    omega (arith, grows n (16 - n), ap (λ (x : ℕ). sumTo x full) p, seventy)
+longest-most n h = omega (arith, sum-mono n 16 full h, seventy)
 
 pub length-known : LengthKnown
 length-known = record { exact = tree-length; bound = tree-bound; most = longest-most; met = tree-full }

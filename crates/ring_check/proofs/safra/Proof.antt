@@ -5,7 +5,7 @@ use mir.Syntax.{w64}
 use mir.Val.{SFits}
 use native.Mathlib.Numerals.{add-one}
 use native.Mathlib.Omega.{arith}
-use Rattle.laws.proofs.Places.{total-mono}
+use Rattle.laws.proofs.Sums.{total-mono}
 use Rattle.ring_rules.specs.Soundness.{gatheredTest, safraTest}
 use Rattle.ring_check.proofs.safra.Statement.{statement}
 use Rattle.ring_check.proofs.safra.Tie as tie

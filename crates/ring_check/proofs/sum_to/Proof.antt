@@ -1,9 +1,9 @@
 use Prim.Native.Nat.{_*_, _+_, _-_, _^_, _≤_}
 use borrow.Author.Needs.{needs}
-use mathlib.Core.Path.{_∙_, _≡_, ap, ap₂, refl, sym}
+use mathlib.Core.Path.{_∙_, _≡_, ap, ap₂, sym}
 use native.Mathlib.Omega.{arith}
-use Rattle.laws.proofs.Places.{total-next}
-use Rattle.laws.specs.Places.{total}
+use Rattle.laws.proofs.Sums.{sum-none, total-next}
+use Rattle.laws.specs.Sums.{total}
 use Rattle.ring_check.proofs.sum_to.Statement.{statement}
 use Rattle.ring_check.proofs.sum_to.Tie as tie
 
@@ -14,7 +14,7 @@ abbrev μ-loop : tie.MeasureT-loop
 μ-loop a n sum₀ i₀ sum i = n - i
 
 loop-holds : tie.Need-loop-holds Inv-loop μ-loop
-loop-holds c = (omega arith, refl, omega arith)
+loop-holds c = (omega arith, sym (sum-none _), omega arith)
 
 mul-wide : tie.Need-mul-wide Inv-loop μ-loop
 mul-wide c = search needs

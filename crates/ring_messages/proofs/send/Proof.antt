@@ -2,7 +2,7 @@ use borrow.Author.Tests.{eq-eqb, le-leb, lt-leb, ne-eqb, not-false, not-true}
 use lib.Dec.{leb}
 use mathlib.Core.Path.{_∙_, ap, refl, sym}
 use native.Mathlib.Omega.{arith}
-use Rattle.laws.proofs.Places.{total-at}
+use Rattle.laws.proofs.Sums.{total-at}
 use Rattle.laws.proofs.Tests.{left-true, right-true}
 use Rattle.ring_rules.proofs.Answers.{accepted-answer, limit-answer, node-answer, rule-answer, self-answer}
 use Rattle.ring_rules.proofs.Start.{fits}

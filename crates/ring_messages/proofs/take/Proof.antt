@@ -2,7 +2,7 @@ use borrow.Author.Tests.{le-leb, le-ltb, lt-leb, lt-ltb}
 use lib.ListN.{getD}
 use mathlib.Core.Path.{refl}
 use native.Mathlib.Omega.{arith}
-use Rattle.laws.proofs.Places.{total-at}
+use Rattle.laws.proofs.Sums.{total-at}
 use Rattle.ring_rules.proofs.Answers.{accepted-answer, node-answer, rule-answer}
 use Rattle.ring_rules.proofs.Start.{fits}
 use Rattle.ring_rules.specs.Rules.{Take}

@@ -4,10 +4,9 @@ use lib.Dec.{eqb}
 use mathlib.Core.Bool.{_&&_, cond, not}
 use mathlib.Core.Path.{_∙_, _≡_, ap}
 use native.Mathlib.Omega.{arith}
-use Rattle.laws.proofs.Places.{count-none}
-use Rattle.laws.specs.Places.{countTo}
+use Rattle.laws.proofs.Sums.{count-next, count-none}
+use Rattle.laws.specs.Sums.{countTo}
 use Rattle.tree_rules.specs.State.{children, isChild}
-use Rattle.laws.proofs.Places.{count-next}
 use Rattle.tree_check.proofs.children_of.Statement.{statement}
 use Rattle.tree_check.proofs.children_of.Tie as tie
 
