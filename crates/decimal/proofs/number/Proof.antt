@@ -20,15 +20,39 @@ add-if3 c = search needs
 
 returns-2 : tie.Need-returns-2
 unfolding numberOf checked
-returns-2 c = rw (← c .before .before .before .before .before .before .scan-digits .ensures, lt-leb _ _ (c .before .before .before .before .if1 .left), ← c .before .before .before .byte-at .ensures, eq-eqb _ 48 (c .before .before .if2 .taken), lt-ltb _ _ (c .if3 .taken))
+returns-2 c =
+    let at-byte-at = c .before .before .before in
+    let at-if1 = at-byte-at .before in
+    let at-scan-digits = at-if1 .before .before in
+    rw (
+      ← at-scan-digits .scan-digits .ensures,
+      lt-leb _ _ (at-if1 .if1 .left),
+      ← at-byte-at .byte-at .ensures,
+      eq-eqb _ 48
+          (c .before .before .if2 .taken),
+      lt-ltb _ _ (c .if3 .taken),
+    )
 
 returns-3 : tie.Need-returns-3
 unfolding numberOf checked
-returns-3 c = rw (← c .before .before .before .before .before .before .scan-digits .ensures, lt-leb _ _ (c .before .before .before .before .if1 .left), ← c .before .before .before .byte-at .ensures, eq-eqb _ 48 (c .before .before .if2 .taken), le-ltb _ _ (c .if3 .left))
+returns-3 c =
+    let at-byte-at = c .before .before .before in
+    let at-if1 = at-byte-at .before in
+    let at-scan-digits = at-if1 .before .before in
+    rw (
+      ← at-scan-digits .scan-digits .ensures,
+      lt-leb _ _ (at-if1 .if1 .left),
+      ← at-byte-at .byte-at .ensures,
+      eq-eqb _ 48
+          (c .before .before .if2 .taken),
+      le-ltb _ _ (c .if3 .left),
+    )
 
 returns-4 : tie.Need-returns-4
 unfolding numberOf checked
-returns-4 c = rw (← c .before .before .before .before .scan-digits .ensures, lt-leb _ _ (c .before .before .if1 .left), ← c .before .byte-at .ensures, ne-eqb _ 48 (c .if2 .left))
+returns-4 c =
+    let at-scan-digits = c .before .before .before .before in
+    rw (← at-scan-digits .scan-digits .ensures, lt-leb _ _ (c .before .before .if1 .left), ← c .before .byte-at .ensures, ne-eqb _ 48 (c .if2 .left))
 
 pub number-spec : {M : Type 1} → statement M
 number-spec =

@@ -20,9 +20,18 @@ reason-number-requires : tie.Need-reason-number-requires
 reason-number-requires c κs = search needs
 
 returns : tie.Need-returns
-returns c = let f : SFits w64 (c .before .before .before .before .before .before .before .before .before .before .before .before .before .args .q .now) = search needs in
+returns c =
+    let f : SFits w64
+    (c .before .before .before .before .before .before .before .before .before .before .before .before .before .args .q .now) = search needs in
     let g : SFits w64 (c .before .before .before .before .drive .result .ring .q) = search needs in
-    let e : driven (c .before .before .before .before .drive .result) ≡ driveOf (lent (c .before .before .before .before .before .before .before .before .before .before .before .before .before .args .n) (c .before .before .before .before .before .before .before .before .before .before .before .before .before .args .active .now) (c .before .before .before .before .before .before .before .before .before .before .before .before .before .args .color .now) (c .before .before .before .before .before .before .before .before .before .before .before .before .before .args .sent .now) (c .before .before .before .before .before .before .before .before .before .before .before .before .before .args .received .now) (c .before .before .before .before .before .before .before .before .before .before .before .before .before .args .pending .now) (c .before .before .before .before .before .before .before .before .before .before .before .before .before .args .pos .now) (c .before .before .before .before .before .before .before .before .before .before .before .before .before .args .q .now) (c .before .before .before .before .before .before .before .before .before .before .before .before .before .args .black .now) (c .before .before .before .before .before .before .before .before .before .before .before .before .before .args .closed)) (c .before .before .before .before .before .before .before .before .before .before .before .before .before .args .limit) = c .before .before .before .before .drive .ensures ∙ ap (λ (s : State). driveOf s (c .before .before .before .before .before .before .before .before .before .before .before .before .before .args .limit)) (c .before .before .before .before .before .gathered .ensures ∙ rw (toZ-ofZ f)) in
+    let at-drive = c .before .before .before .before in
+    let at-gathered = at-drive .before in
+    let start = at-gathered .before .before .before .before .before .before .before .before in
+    let e : driven (at-drive .drive .result) ≡ driveOf
+    (lent (start .args .n) (start .args .active .now) (start .args .color .now) (start .args .sent .now) (start .args .received .now)
+    (start .args .pending .now) (start .args .pos .now) (start .args .q .now) (start .args .black .now) (start .args .closed))
+    (start .args .limit) = at-drive .drive .ensures ∙ ap (λ (s : State). driveOf s (start .args .limit))
+    (at-gathered .gathered .ensures ∙ rw (toZ-ofZ f)) in
     (c .reason-number .ensures ∙ ap (λ (a : Driven). reasonOf (a .reason)) e, ap (λ (a : Driven). a .moves) e, rw (toZ-ofZ g) (rw (← e)))
 
 pub ring-drive-spec : {M : Type 1} → statement M

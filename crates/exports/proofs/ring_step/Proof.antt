@@ -21,9 +21,18 @@ code-requires : tie.Need-code-requires
 code-requires c κs = search needs
 
 returns : tie.Need-returns
-returns c = let f : SFits w64 (c .before .before .before .before .before .before .before .before .before .before .before .before .before .before .before .before .before .args .q .now) = search needs in
+returns c =
+    let f : SFits w64
+    (c .before .before .before .before .before .before .before .before .before .before .before .before .before .before .before .before .before .args .q .now) = search needs in
     let g : SFits w64 (c .before .before .before .before .before .before .before .before .step .result .ring .q) = search needs in
-    let e : answer (c .before .before .before .before .before .before .before .before .step .result) ≡ stepOf (lent (c .before .before .before .before .before .before .before .before .before .before .before .before .before .before .before .before .before .args .n) (c .before .before .before .before .before .before .before .before .before .before .before .before .before .before .before .before .before .args .active .now) (c .before .before .before .before .before .before .before .before .before .before .before .before .before .before .before .before .before .args .color .now) (c .before .before .before .before .before .before .before .before .before .before .before .before .before .before .before .before .before .args .sent .now) (c .before .before .before .before .before .before .before .before .before .before .before .before .before .before .before .before .before .args .received .now) (c .before .before .before .before .before .before .before .before .before .before .before .before .before .before .before .before .before .args .pending .now) (c .before .before .before .before .before .before .before .before .before .before .before .before .before .before .before .before .before .args .pos .now) (c .before .before .before .before .before .before .before .before .before .before .before .before .before .before .before .before .before .args .q .now) (c .before .before .before .before .before .before .before .before .before .before .before .before .before .before .before .before .before .args .black .now) (c .before .before .before .before .before .before .before .before .before .before .before .before .before .before .before .before .before .args .closed .now)) (c .before .before .before .before .before .before .before .before .before .before .before .before .before .before .before .before .before .args .kind) (c .before .before .before .before .before .before .before .before .before .before .before .before .before .before .before .before .before .args .i) (c .before .before .before .before .before .before .before .before .before .before .before .before .before .before .before .before .before .args .j) = c .before .before .before .before .before .before .before .before .step .ensures ∙ ap (λ (s : State). stepOf s (c .before .before .before .before .before .before .before .before .before .before .before .before .before .before .before .before .before .args .kind) (c .before .before .before .before .before .before .before .before .before .before .before .before .before .before .before .before .before .args .i) (c .before .before .before .before .before .before .before .before .before .before .before .before .before .before .before .before .before .args .j)) (c .before .before .before .before .before .before .before .before .before .gathered .ensures ∙ rw (toZ-ofZ f)) in
+    let at-step = c .before .before .before .before .before .before .before .before in
+    let at-gathered = at-step .before in
+    let start = at-gathered .before .before .before .before .before .before .before .before in
+    let e : answer (at-step .step .result) ≡ stepOf
+    (lent (start .args .n) (start .args .active .now) (start .args .color .now) (start .args .sent .now) (start .args .received .now)
+    (start .args .pending .now) (start .args .pos .now) (start .args .q .now) (start .args .black .now) (start .args .closed .now))
+    (start .args .kind) (start .args .i) (start .args .j) = at-step .step .ensures ∙ ap
+    (λ (s : State). stepOf s (start .args .kind) (start .args .i) (start .args .j)) (at-gathered .gathered .ensures ∙ rw (toZ-ofZ f)) in
     (c .code .ensures ∙ ap (λ (a : Answer). codeOf (a .verdict)) e, rw (toZ-ofZ g) (rw (← e)))
 
 pub ring-step-spec : {M : Type 1} → statement M

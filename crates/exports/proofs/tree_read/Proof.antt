@@ -12,7 +12,12 @@ code-requires : tie.Need-code-requires
 code-requires c κs = search needs
 
 returns : tie.Need-returns
-returns c = (c .code .ensures ∙ ap (λ (f : Found). codeOf (f .verdict)) (c .before .before .read .ensures), ap (λ (f : Found). f .engager) (c .before .before .read .ensures), ap (λ (f : Found). f .root) (c .before .before .read .ensures))
+returns c = (
+  c .code .ensures ∙ ap (λ (f : Found). codeOf (f .verdict)) (c .before .before .read .ensures),
+  ap (λ (f : Found). f .engager)
+      (c .before .before .read .ensures),
+  ap (λ (f : Found). f .root) (c .before .before .read .ensures),
+)
 
 pub tree-read-spec : {M : Type 1} → statement M
 tree-read-spec = tie.close (tie.spec read-requires code-requires returns)

@@ -17,7 +17,13 @@ same-length : tie.Need-same-length
 same-length c = search needs
 
 returns : tie.Need-returns
-returns c = (c .written-number .ensures ∙ ap writtenNumber (c .before .before .before .before .write .ensures .0), c .before .written-length .ensures ∙ ap writtenLength (c .before .before .before .before .write .ensures .0), c .before .before .before .before .write .ensures .1)
+returns c =
+    let at-write = c .before .before .before .before in (
+      c .written-number .ensures ∙ ap writtenNumber (at-write .write .ensures .0),
+      c .before .written-length .ensures ∙ ap writtenLength
+          (at-write .write .ensures .0),
+      at-write .write .ensures .1,
+    )
 
 pub tree-write-spec : {M : Type 1} → statement M
 tree-write-spec =

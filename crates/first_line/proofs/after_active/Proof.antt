@@ -27,10 +27,20 @@ no-first-requires-2 c κs = search needs
 
 returns-2 : tie.Need-returns-2
 unfolding afterActive
-returns-2 c = rw (not-false (c .before .before .before .before .before .before .before .args .a .good) (c .before .before .before .before .if1 .left), sym (c .before .before .has .ensures) ∙ not-true _ (c .before .if2 .taken)) (c .no-first2 .ensures)
+returns-2 c =
+    let at-if1 = c .before .before .before .before in
+    let start = at-if1 .before .before .before in
+    rw (not-false (start .args .a .good) (at-if1 .if1 .left), sym (c .before .before .has .ensures) ∙ not-true _ (c .before .if2 .taken))
+    (c .no-first2 .ensures)
 
 add-entries : tie.Need-add-entries
-add-entries c = omega (arith, word-in (c .before .before .before .before .before .before .before .args .s .now) (c .before .before .before .before .before .before .before .args .a .at) (bytes ") (black") (omega arith) (sym (c .before .before .has .ensures) ∙ not-false _ (c .before .if2 .left)))
+add-entries c =
+    let start = c .before .before .before .before .before .before .before in
+    omega (
+      arith,
+      word-in (start .args .s .now) (start .args .a .at) (bytes ") (black") (omega arith)
+          (sym (c .before .before .has .ensures) ∙ not-false _ (c .before .if2 .left)),
+    )
 
 entries-requires : tie.Need-entries-requires
 entries-requires c κs = search needs
@@ -41,8 +51,12 @@ after-black-requires c κs = search needs
 returns-3 : tie.Need-returns-3
 unfolding afterActive
 returns-3 c =
-    rw (not-false (c .before .before .before .before .before .before .before .before .before .args .a .good) (c .before .before .before .before .before .before .if1 .left), sym (c .before .before .before .before .has .ensures) ∙ not-false _ (c .before .before .before .if2 .left))
-    (c .after-black .ensures ∙ ap (afterBlack (c .before .before .before .before .before .before .before .before .before .args .s .now) (c .before .before .before .before .before .before .before .before .before .args .n)) (c .before .entries .ensures))
+    let at-if2 = c .before .before .before in
+    let at-has = at-if2 .before in
+    let at-if1 = at-has .before .before in
+    let start = at-if1 .before .before .before in
+    rw (not-false (start .args .a .good) (at-if1 .if1 .left), sym (at-has .has .ensures) ∙ not-false _ (at-if2 .if2 .left))
+    (c .after-black .ensures ∙ ap (afterBlack (start .args .s .now) (start .args .n)) (c .before .entries .ensures))
 
 pub after-active-spec : {M : Type 1} → statement M
 after-active-spec =

@@ -27,17 +27,31 @@ no-first-requires-2 c κs = search needs
 
 returns-2 : tie.Need-returns-2
 unfolding afterBlack
-returns-2 c = rw (not-false (c .before .before .before .before .before .before .before .args .b .good) (c .before .before .before .before .if1 .left), sym (c .before .before .has .ensures) ∙ not-true _ (c .before .if2 .taken)) (c .no-first2 .ensures)
+returns-2 c =
+    let at-if1 = c .before .before .before .before in
+    let start = at-if1 .before .before .before in
+    rw (not-false (start .args .b .good) (at-if1 .if1 .left), sym (c .before .before .has .ensures) ∙ not-true _ (c .before .if2 .taken))
+    (c .no-first2 .ensures)
 
 add-ring-first : tie.Need-add-ring-first
-add-ring-first c = omega (arith, word-in (c .before .before .before .before .before .before .before .args .s .now) (c .before .before .before .before .before .before .before .args .b .at) (bytes "))\n") (omega arith) (sym (c .before .before .has .ensures) ∙ not-false _ (c .before .if2 .left)))
+add-ring-first c =
+    let start = c .before .before .before .before .before .before .before in
+    omega (
+      arith,
+      word-in (start .args .s .now) (start .args .b .at) (bytes "))\n") (omega arith)
+          (sym (c .before .before .has .ensures) ∙ not-false _ (c .before .if2 .left)),
+    )
 
 ring-first-requires : tie.Need-ring-first-requires
 ring-first-requires c κs = search needs
 
 returns-3 : tie.Need-returns-3
 unfolding afterBlack
-returns-3 c = rw (not-false (c .before .before .before .before .before .before .before .before .args .b .good) (c .before .before .before .before .before .if1 .left), sym (c .before .before .before .has .ensures) ∙ not-false _ (c .before .before .if2 .left)) (c .ring-first .ensures)
+returns-3 c =
+    let at-has = c .before .before .before in
+    let at-if1 = at-has .before .before in
+    let start = at-if1 .before .before .before in
+    rw (not-false (start .args .b .good) (at-if1 .if1 .left), sym (at-has .has .ensures) ∙ not-false _ (c .before .before .if2 .left)) (c .ring-first .ensures)
 
 pub after-black-spec : {M : Type 1} → statement M
 after-black-spec =

@@ -38,32 +38,55 @@ no-marks-requires : tie.Need-no-marks-requires Inv-loop μ-loop
 no-marks-requires c κs = search needs
 
 returns-2 : tie.Need-returns-2 Inv-loop μ-loop
-returns-2 c = c .no-marks .ensures ∙ left-wrong (c .before .before .before .before .before .before .before .loop .inv) (c .before .before .before .before .if1 .left) (sym (c .before .before .before .spaced .ensures) ∙ c .before .enum-told .given .1)
+returns-2 c =
+    let at-spaced = c .before .before .before in
+    let at-if1 = at-spaced .before in
+    let at-loop = at-if1 .before .before .before in
+    c .no-marks .ensures ∙ left-wrong (at-loop .loop .inv) (at-if1 .if1 .left) (sym (at-spaced .spaced .ensures) ∙ c .before .enum-told .given .1)
 
 no-marks-requires-2 : tie.Need-no-marks-requires-2 Inv-loop μ-loop
 no-marks-requires-2 c κs = search needs
 
 returns-3 : tie.Need-returns-3 Inv-loop μ-loop
-returns-3 c = c .no-marks2 .ensures ∙ left-low (c .before .before .before .before .before .before .before .before .before .loop .inv) (c .before .before .before .before .before .before .if1 .left) (sym (c .before .before .before .before .before .spaced .ensures) ∙ c .before .before .before .m .given .1) (c .before .if2 .taken)
+returns-3 c =
+    let at-m = c .before .before .before in
+    let at-spaced = at-m .before .before in
+    let at-if1 = at-spaced .before in
+    let at-loop = at-if1 .before .before .before in
+    c .no-marks2 .ensures ∙ left-low (at-loop .loop .inv) (at-if1 .if1 .left) (sym (at-spaced .spaced .ensures) ∙ at-m .m .given .1) (c .before .if2 .taken)
 
 mark-requires : tie.Need-mark-requires Inv-loop μ-loop
 mark-requires c κs = search needs
 
 add-larger : tie.Need-add-larger Inv-loop μ-loop
-add-larger c = omega (arith, spaced-sound _ _ _ _ (sym (c .before .before .before .before .before .before .spaced .ensures) ∙ c .before .before .before .before .m .given .1) .1)
+add-larger c =
+    let at-m = c .before .before .before .before in
+    let at-spaced = at-m .before .before in
+    omega (arith, spaced-sound _ _ _ _ (sym (at-spaced .spaced .ensures) ∙ at-m .m .given .1) .1)
 
 larger-requires : tie.Need-larger-requires Inv-loop μ-loop
 larger-requires c κs = search needs
 
 add-low : tie.Need-add-low Inv-loop μ-loop
-add-low c = omega (arith, spaced-sound _ _ _ _ (sym (c .before .before .before .before .before .before .before .spaced .ensures) ∙ c .before .before .before .before .before .m .given .1) .1)
+add-low c =
+    let at-m = c .before .before .before .before .before in
+    let at-spaced = at-m .before .before in
+    omega (arith, spaced-sound _ _ _ _ (sym (at-spaced .spaced .ensures) ∙ at-m .m .given .1) .1)
 
 loop-less : tie.Need-loop-less Inv-loop μ-loop
-loop-less c = omega (arith, spaced-sound _ _ _ _ (sym (c .before .before .before .before .before .before .before .spaced .ensures) ∙ c .before .before .before .before .before .m .given .1) .2)
+loop-less c =
+    let at-m = c .before .before .before .before .before in
+    let at-spaced = at-m .before .before in
+    omega (arith, spaced-sound _ _ _ _ (sym (at-spaced .spaced .ensures) ∙ at-m .m .given .1) .2)
 
 loop-again : tie.Need-loop-again Inv-loop μ-loop
 loop-again c =
-    let more = left-more (c .before .before .before .before .before .before .before .before .before .before .before .loop .inv) (c .before .before .before .before .before .before .before .before .if1 .left) (search needs) (sym (c .before .before .before .before .before .before .before .spaced .ensures) ∙ c .before .before .before .before .before .m .given .1) (c .before .before .before .if2 .left) in
+    let at-if2 = c .before .before .before in
+    let at-m = at-if2 .before .before in
+    let at-spaced = at-m .before .before in
+    let at-if1 = at-spaced .before in
+    let at-loop = at-if1 .before .before .before in
+    let more = left-more (at-loop .loop .inv) (at-if1 .if1 .left) (search needs) (sym (at-spaced .spaced .ensures) ∙ at-m .m .given .1) (at-if2 .if2 .left) in
     rw (c .before .mark .ensures, c .larger .ensures) more
 
 returns-4 : tie.Need-returns-4 Inv-loop μ-loop

@@ -25,7 +25,9 @@ unfolding listsAt
 returns c = rw (sym (c .before .before .has .ensures) ∙ not-true _ (c .before .if1 .taken)) (c .no-first .ensures)
 
 add-entries : tie.Need-add-entries
-add-entries c = omega (arith, word-in (c .before .before .before .before .args .s .now) (c .before .before .before .before .args .at) (bytes " (active") (omega arith) (sym (c .before .has .ensures) ∙ not-false _ (c .if1 .left)))
+add-entries c =
+    let start = c .before .before .before .before in
+    omega (arith, word-in (start .args .s .now) (start .args .at) (bytes " (active") (omega arith) (sym (c .before .has .ensures) ∙ not-false _ (c .if1 .left)))
 
 entries-requires : tie.Need-entries-requires
 entries-requires c κs = search needs

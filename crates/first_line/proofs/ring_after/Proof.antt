@@ -18,7 +18,10 @@ has-requires : tie.Need-has-requires
 has-requires c κs = search needs
 
 add-ring-first : tie.Need-add-ring-first
-add-ring-first c = omega (arith, word-in (c .before .before .before .before .before .before .before .args .s .now) (c .before .before .before .before .m .given .0 .1 .0) (bytes ")\n") (omega arith) (sym (c .before .has .ensures) ∙ c .if1 .taken))
+add-ring-first c =
+    let at-m = c .before .before .before .before in
+    let start = at-m .before .before .before in
+    omega (arith, word-in (start .args .s .now) (at-m .m .given .0 .1 .0) (bytes ")\n") (omega arith) (sym (c .before .has .ensures) ∙ c .if1 .taken))
 
 ring-first-requires : tie.Need-ring-first-requires
 ring-first-requires c κs = search needs

@@ -23,10 +23,19 @@ no-first-requires c κs = search needs
 
 returns : tie.Need-returns
 unfolding rootAfter
-returns c = rw (c .before .before .before .before .before .m .given .1, sym (c .before .before .has .ensures) ∙ not-true _ (c .before .if1 .taken)) (c .no-first .ensures)
+returns c =
+    let at-m = c .before .before .before .before .before in
+    rw (at-m .m .given .1, sym (c .before .before .has .ensures) ∙ not-true _ (c .before .if1 .taken)) (c .no-first .ensures)
 
 add-tree-first : tie.Need-add-tree-first
-add-tree-first c = omega (arith, word-in (c .before .before .before .before .before .before .before .args .s .now) (c .before .before .before .before .m .given .0 .1 .0) (bytes "))\n") (omega arith) (sym (c .before .has .ensures) ∙ not-false _ (c .if1 .left)))
+add-tree-first c =
+    let at-m = c .before .before .before .before in
+    let start = at-m .before .before .before in
+    omega (
+      arith,
+      word-in (start .args .s .now) (at-m .m .given .0 .1 .0) (bytes "))\n") (omega arith)
+          (sym (c .before .has .ensures) ∙ not-false _ (c .if1 .left)),
+    )
 
 tree-first-requires : tie.Need-tree-first-requires
 tree-first-requires c κs = search needs
@@ -39,7 +48,9 @@ no-first-requires-2 c κs = search needs
 
 returns-2 : tie.Need-returns-2
 unfolding rootAfter
-returns-2 c = rw (c .before .before .before .before .before .m .given .1, sym (c .before .before .has .ensures) ∙ not-false _ (c .before .if1 .left)) (c .tree-first .ensures)
+returns-2 c =
+    let at-m = c .before .before .before .before .before in
+    rw (at-m .m .given .1, sym (c .before .before .has .ensures) ∙ not-false _ (c .before .if1 .left)) (c .tree-first .ensures)
 
 returns-3 : tie.Need-returns-3
 unfolding rootAfter

@@ -15,7 +15,9 @@ has-requires : tie.Need-has-requires
 has-requires c κs = search needs
 
 add-spaced : tie.Need-add-spaced
-add-spaced c = omega (arith, word-in (c .before .before .before .before .args .s .now) (c .before .before .before .before .args .at) (bytes "(ring") (omega arith) (sym (c .before .has .ensures) ∙ c .if1 .taken))
+add-spaced c =
+    let start = c .before .before .before .before in
+    omega (arith, word-in (start .args .s .now) (start .args .at) (bytes "(ring") (omega arith) (sym (c .before .has .ensures) ∙ c .if1 .taken))
 
 spaced-requires : tie.Need-spaced-requires
 spaced-requires c κs = search needs
@@ -34,7 +36,9 @@ has-requires-2 : tie.Need-has-requires-2
 has-requires-2 c κs = search needs
 
 add-spaced-2 : tie.Need-add-spaced-2
-add-spaced-2 c = omega (arith, word-in (c .before .before .before .before .before .before .before .args .s .now) (c .before .before .before .before .before .before .before .args .at) (bytes "(tree") (omega arith) (sym (c .before .has2 .ensures) ∙ c .if2 .taken))
+add-spaced-2 c =
+    let start = c .before .before .before .before .before .before .before in
+    omega (arith, word-in (start .args .s .now) (start .args .at) (bytes "(tree") (omega arith) (sym (c .before .has2 .ensures) ∙ c .if2 .taken))
 
 spaced-requires-2 : tie.Need-spaced-requires-2
 spaced-requires-2 c κs = search needs
@@ -44,14 +48,22 @@ tree-after-requires c κs = search needs
 
 returns-2 : tie.Need-returns-2
 unfolding startAt
-returns-2 c = rw (sym (c .before .before .before .before .before .before .has .ensures) ∙ c .before .before .before .before .before .if1 .left, sym (c .before .before .before .has2 .ensures) ∙ c .before .before .if2 .taken, ← c .before .spaced2 .ensures) (c .tree-after .ensures)
+returns-2 c =
+    let at-has2 = c .before .before .before in
+    let at-if1 = at-has2 .before .before in
+    let at-has = at-if1 .before in
+    rw (sym (at-has .has .ensures) ∙ at-if1 .if1 .left, sym (at-has2 .has2 .ensures) ∙ c .before .before .if2 .taken, ← c .before .spaced2 .ensures)
+    (c .tree-after .ensures)
 
 no-first-requires : tie.Need-no-first-requires
 no-first-requires c κs = search needs
 
 returns-3 : tie.Need-returns-3
 unfolding startAt
-returns-3 c = rw (sym (c .before .before .before .before .before .has .ensures) ∙ c .before .before .before .before .if1 .left, sym (c .before .before .has2 .ensures) ∙ c .before .if2 .left) (c .no-first .ensures)
+returns-3 c =
+    let at-if1 = c .before .before .before .before in
+    let at-has = at-if1 .before in
+    rw (sym (at-has .has .ensures) ∙ at-if1 .if1 .left, sym (c .before .before .has2 .ensures) ∙ c .before .if2 .left) (c .no-first .ensures)
 
 pub start-at-spec : {M : Type 1} → statement M
 start-at-spec =

@@ -23,10 +23,19 @@ no-first-requires c κs = search needs
 
 returns : tie.Need-returns
 unfolding treeAfter
-returns c = rw (c .before .before .before .before .before .m .given .1, sym (c .before .before .has .ensures) ∙ not-true _ (c .before .if1 .taken)) (c .no-first .ensures)
+returns c =
+    let at-m = c .before .before .before .before .before in
+    rw (at-m .m .given .1, sym (c .before .before .has .ensures) ∙ not-true _ (c .before .if1 .taken)) (c .no-first .ensures)
 
 add-spaced : tie.Need-add-spaced
-add-spaced c = omega (arith, word-in (c .before .before .before .before .before .before .before .args .s .now) (c .before .before .before .before .m .given .0 .1 .0) (bytes " (root") (omega arith) (sym (c .before .has .ensures) ∙ not-false _ (c .if1 .left)))
+add-spaced c =
+    let at-m = c .before .before .before .before in
+    let start = at-m .before .before .before in
+    omega (
+      arith,
+      word-in (start .args .s .now) (at-m .m .given .0 .1 .0) (bytes " (root") (omega arith)
+          (sym (c .before .has .ensures) ∙ not-false _ (c .if1 .left)),
+    )
 
 spaced-requires : tie.Need-spaced-requires
 spaced-requires c κs = search needs
@@ -43,7 +52,9 @@ no-first-requires-2 c κs = search needs
 returns-2 : tie.Need-returns-2
 unfolding treeAfter
 returns-2 c =
-    rw (c .before .before .before .before .before .before .m .given .1, sym (c .before .before .before .has .ensures) ∙ not-false _ (c .before .before .if1 .left), ← c .before .spaced .ensures) (c .root-after .ensures)
+    let at-has = c .before .before .before in
+    let at-m = at-has .before .before .before in
+    rw (at-m .m .given .1, sym (at-has .has .ensures) ∙ not-false _ (c .before .before .if1 .left), ← c .before .spaced .ensures) (c .root-after .ensures)
 
 returns-3 : tie.Need-returns-3
 unfolding treeAfter

@@ -33,7 +33,9 @@ returns : tie.Need-returns
 returns c = sym (closed-no _ _ _ _ (sym (c .before .has .ensures) ∙ not-true _ (c .if1 .taken)))
 
 add-t10 : tie.Need-add-t10
-add-t10 c = omega (arith, word-in (c .before .before .before .before .args .s .now) (c .before .before .before .before .args .at) (bytes ")\n") (omega arith) (sym (c .before .has .ensures) ∙ not-false _ (c .if1 .left)))
+add-t10 c =
+    let start = c .before .before .before .before in
+    omega (arith, word-in (start .args .s .now) (start .args .at) (bytes ")\n") (omega arith) (sym (c .before .has .ensures) ∙ not-false _ (c .if1 .left)))
 
 returns-2 : tie.Need-returns-2
 returns-2 c = sym (closed-yes _ _ _ _ (sym (c .before .has .ensures) ∙ not-false _ (c .if1 .left)))

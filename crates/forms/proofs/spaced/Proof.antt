@@ -15,7 +15,9 @@ unfolding spacedOf
 returns c = rw (← c .before .byte-at .ensures, ne-eqb _ _ (c .if1 .taken))
 
 add-short-number : tie.Need-add-short-number
-add-short-number c = omega (arith, in-text (c .before .before .before .args .s .now) (c .before .before .before .args .at) (omega (arith, c .before .byte-at .ensures, c .if1 .left)))
+add-short-number c =
+    let start = c .before .before .before in
+    omega (arith, in-text (start .args .s .now) (start .args .at) (omega (arith, c .before .byte-at .ensures, c .if1 .left)))
 
 short-number-requires : tie.Need-short-number-requires
 short-number-requires c κs = search needs

@@ -11,14 +11,18 @@ enum-told : tie.Need-enum-told
 enum-told c = search needs
 
 go-ring-requires : tie.Need-go-ring-requires
-go-ring-requires c κs = let p = c .before .before .before .before .before .before .before .before .before .pre in let l = c .before .before .before .before .before .before .before .before .before .args .log in
+go-ring-requires c κs =
+    let start = c .before .before .before .before .before .before .before .before .before in
+    let p = start .pre in let l = start .args .log in
     (p .1, subst (λ (x : code.Stage). SoundStage (stageBy x (l .ring) (l .moves) (l .tree)) (l .lines)) (c .before .before .enum-told .given .1) (p .0 .sound))
 
 enum-told-2 : tie.Need-enum-told-2
 enum-told-2 c = search needs
 
 go-tree-requires : tie.Need-go-tree-requires
-go-tree-requires c κs = let p = c .before .before .before .before .before .before .before .before .before .pre in let l = c .before .before .before .before .before .before .before .before .before .args .log in
+go-tree-requires c κs =
+    let start = c .before .before .before .before .before .before .before .before .before in
+    let p = start .pre in let l = start .args .log in
     (p .1, subst (λ (x : code.Stage). SoundStage (stageBy x (l .ring) (l .moves) (l .tree)) (l .lines)) (c .before .before .enum-told2 .given .1) (p .0 .sound))
 
 enum-told-3 : tie.Need-enum-told-3
@@ -46,11 +50,16 @@ returns-2 : tie.Need-returns-2
 returns-2 c = rw (c .before .before .before .before .before .before .before .enum-told2 .given .1) (c .before .before .before .before .go-tree .ensures)
 
 returns-3 : tie.Need-returns-3
-returns-3 c = let p = c .before .before .before .before .before .before .before .pre in let l = c .before .before .before .before .before .before .before .args .log in
-    over-fed l _ _ _ _ (ap (λ (x : code.Stage). stageBy x (l .ring) (l .moves) (l .tree)) (c .enum-told3 .given .1)) (p .0 .empty) (p .1 .most) (p .1 .places) (omega (arith, p .1 .room))
+returns-3 c =
+    let start = c .before .before .before .before .before .before .before in
+    let p = start .pre in let l = start .args .log in
+    over-fed l _ _ _ _ (ap (λ (x : code.Stage). stageBy x (l .ring) (l .moves) (l .tree)) (c .enum-told3 .given .1)) (p .0 .empty) (p .1 .most)
+    (p .1 .places) (omega (arith, p .1 .room))
 
 returns-4 : tie.Need-returns-4
-returns-4 c = let p = c .before .before .before .before .before .before .before .pre in let l = c .before .before .before .before .before .before .before .args .log in
+returns-4 c =
+    let start = c .before .before .before .before .before .before .before in
+    let p = start .pre in let l = start .args .log in
     absurd (subst (λ (x : code.Stage). Begun (stageBy x (l .ring) (l .moves) (l .tree))) (c .enum-told4 .given .1) (p .0 .begun))
 
 pub go-on-spec : {M : Type 1} → statement M

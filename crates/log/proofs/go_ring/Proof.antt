@@ -17,9 +17,13 @@ same-length-2 : tie.Need-same-length-2
 same-length-2 c = search needs
 
 returns : tie.Need-returns
-returns c = let p = c .before .before .before .before .before .before .before .before .before .before .before .before .pre in
-    let u = c .before .before .before .before .before .before .before .ring-piece .ensures in
-    fed-went _ (u .went) (c .before .before .before .hold-rest .ensures) (u .sound, u .few) (omega (arith, p .0 .places, c .before .before .before .hold-rest .kept)) (p .0)
+returns c =
+    let at-hold-rest = c .before .before .before in
+    let at-ring-piece = at-hold-rest .before .before .before .before in
+    let start = at-ring-piece .before .before .before .before .before in
+    let p = start .pre in
+    let u = at-ring-piece .ring-piece .ensures in
+    fed-went _ (u .went) (at-hold-rest .hold-rest .ensures) (u .sound, u .few) (omega (arith, p .0 .places, at-hold-rest .hold-rest .kept)) (p .0)
 
 pub go-ring-spec : {M : Type 1} → statement M
 go-ring-spec =

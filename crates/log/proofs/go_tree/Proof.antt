@@ -17,9 +17,13 @@ same-length-2 : tie.Need-same-length-2
 same-length-2 c = search needs
 
 returns : tie.Need-returns
-returns c = let p = c .before .before .before .before .before .before .before .before .before .before .before .before .pre in
-    let u = c .before .before .before .before .before .before .before .tree-piece .ensures in
-    fed-went _ (u .went) (c .before .before .before .hold-rest .ensures) (u .sound) (omega (arith, p .0 .places, c .before .before .before .hold-rest .kept)) (p .0)
+returns c =
+    let at-hold-rest = c .before .before .before in
+    let at-tree-piece = at-hold-rest .before .before .before .before in
+    let start = at-tree-piece .before .before .before .before .before in
+    let p = start .pre in
+    let u = at-tree-piece .tree-piece .ensures in
+    fed-went _ (u .went) (at-hold-rest .hold-rest .ensures) (u .sound) (omega (arith, p .0 .places, at-hold-rest .hold-rest .kept)) (p .0)
 
 pub go-tree-spec : {M : Type 1} → statement M
 go-tree-spec =

@@ -12,43 +12,190 @@ slice-aggregate-put-item : tie.Need-slice-aggregate-put-item
 slice-aggregate-put-item c = search needs
 
 put-item-requires : tie.Need-put-item-requires
-put-item-requires c κs = omega (arith, c .before .before .before .pre, item-short (bytes "(end (boards ") (c .before .before .before .args .n) (omega arith) (omega (arith, c .before .before .before .good)))
+put-item-requires c κs =
+    let start = c .before .before .before in
+    omega (arith, start .pre, item-short (bytes "(end (boards ") (start .args .n) (omega arith) (omega (arith, start .good)))
 
 slice-aggregate-put-item-2 : tie.Need-slice-aggregate-put-item-2
 slice-aggregate-put-item-2 c = search needs
 
 put-item-requires-2 : tie.Need-put-item-requires-2
-put-item-requires-2 c κs = omega (arith, c .before .before .before .before .before .before .before .before .pre, item-short (bytes "(end (boards ") (c .before .before .before .before .before .before .before .before .args .n) (omega arith) (omega (arith, c .before .before .before .before .before .before .before .before .good)), item-short (bytes ") (holder ") (c .before .before .before .before .before .before .before .before .args .pos) (omega arith) (omega (arith, c .before .before .before .before .before .before .before .before .good)), c .before .before .before .before .put-item .kept .0, c .before .before .before .before .put-item .ensures .0)
+put-item-requires-2 c κs =
+    let at-put-item = c .before .before .before .before in
+    let start = at-put-item .before .before .before .before in
+    omega (
+      arith,
+      start .pre,
+      item-short (bytes "(end (boards ") (start .args .n) (omega arith) (omega (arith, start .good)),
+      item-short
+          (bytes ") (holder ") (start .args .pos) (omega arith) (omega (arith, start .good)),
+      at-put-item .put-item .kept .0,
+      at-put-item .put-item .ensures .0,
+    )
 
 slice-aggregate-put-item-3 : tie.Need-slice-aggregate-put-item-3
 slice-aggregate-put-item-3 c = search needs
 
 put-item-requires-3 : tie.Need-put-item-requires-3
-put-item-requires-3 c κs = omega (arith, c .before .before .before .before .before .before .before .before .before .before .before .before .before .pre, item-short (bytes "(end (boards ") (c .before .before .before .before .before .before .before .before .before .before .before .before .before .args .n) (omega arith) (omega (arith, c .before .before .before .before .before .before .before .before .before .before .before .before .before .good)), item-short (bytes ") (holder ") (c .before .before .before .before .before .before .before .before .before .before .before .before .before .args .pos) (omega arith) (omega (arith, c .before .before .before .before .before .before .before .before .before .before .before .before .before .good)), item-short (bytes ") (moves ") (c .before .before .before .before .before .before .before .before .before .before .before .before .before .args .moves) (omega arith) (omega (arith, c .before .before .before .before .before .before .before .before .before .before .before .before .before .good)), c .before .before .before .before .before .before .before .before .before .put-item .kept .0, c .before .before .before .before .before .before .before .before .before .put-item .ensures .0, c .before .before .before .before .put-item2 .kept .0, c .before .before .before .before .put-item2 .ensures .0)
+put-item-requires-3 c κs =
+    let at-put-item2 = c .before .before .before .before in
+    let at-put-item = at-put-item2 .before .before .before .before .before in
+    let start = at-put-item .before .before .before .before in
+    omega (
+      arith,
+      start .pre,
+      item-short (bytes "(end (boards ") (start .args .n) (omega arith) (omega (arith, start .good)),
+      item-short
+          (bytes ") (holder ") (start .args .pos) (omega arith) (omega (arith, start .good)),
+      item-short (bytes ") (moves ") (start .args .moves)
+          (omega arith) (omega (arith, start .good)),
+      at-put-item .put-item .kept .0,
+      at-put-item .put-item .ensures .0,
+      at-put-item2 .put-item2 .kept .0,
+      at-put-item2 .put-item2 .ensures .0,
+    )
 
 slice-aggregate-put-item-4 : tie.Need-slice-aggregate-put-item-4
 slice-aggregate-put-item-4 c = search needs
 
 put-item-requires-4 : tie.Need-put-item-requires-4
-put-item-requires-4 c κs = omega (arith, c .before .before .before .before .before .before .before .before .before .before .before .before .before .before .before .before .before .before .pre, item-short (bytes "(end (boards ") (c .before .before .before .before .before .before .before .before .before .before .before .before .before .before .before .before .before .before .args .n) (omega arith) (omega (arith, c .before .before .before .before .before .before .before .before .before .before .before .before .before .before .before .before .before .before .good)), item-short (bytes ") (holder ") (c .before .before .before .before .before .before .before .before .before .before .before .before .before .before .before .before .before .before .args .pos) (omega arith) (omega (arith, c .before .before .before .before .before .before .before .before .before .before .before .before .before .before .before .before .before .before .good)), item-short (bytes ") (moves ") (c .before .before .before .before .before .before .before .before .before .before .before .before .before .before .before .before .before .before .args .moves) (omega arith) (omega (arith, c .before .before .before .before .before .before .before .before .before .before .before .before .before .before .before .before .before .before .good)), item-short (bytes ") (flight ") (c .before .before .before .before .before .before .before .before .before .before .before .before .before .before .before .before .before .before .args .flight) (omega arith) (omega (arith, c .before .before .before .before .before .before .before .before .before .before .before .before .before .before .before .before .before .before .good)), c .before .before .before .before .before .before .before .before .before .before .before .before .before .before .put-item .kept .0, c .before .before .before .before .before .before .before .before .before .before .before .before .before .before .put-item .ensures .0, c .before .before .before .before .before .before .before .before .before .put-item2 .kept .0, c .before .before .before .before .before .before .before .before .before .put-item2 .ensures .0, c .before .before .before .before .put-item3 .kept .0, c .before .before .before .before .put-item3 .ensures .0)
+put-item-requires-4 c κs =
+    let at-put-item3 = c .before .before .before .before in
+    let at-put-item2 = at-put-item3 .before .before .before .before .before in
+    let at-put-item = at-put-item2 .before .before .before .before .before in
+    let start = at-put-item .before .before .before .before in
+    omega (
+      arith,
+      start .pre,
+      item-short (bytes "(end (boards ") (start .args .n) (omega arith) (omega (arith, start .good)),
+      item-short
+          (bytes ") (holder ") (start .args .pos) (omega arith) (omega (arith, start .good)),
+      item-short (bytes ") (moves ") (start .args .moves)
+          (omega arith) (omega (arith, start .good)),
+      item-short (bytes ") (flight ") (start .args .flight) (omega arith) (omega (arith, start .good)),
+      at-put-item .put-item .kept .0,
+      at-put-item .put-item .ensures .0,
+      at-put-item2 .put-item2 .kept .0,
+      at-put-item2 .put-item2 .ensures .0,
+      at-put-item3 .put-item3 .kept .0,
+      at-put-item3 .put-item3 .ensures .0,
+    )
 
 slice-aggregate-put-item-5 : tie.Need-slice-aggregate-put-item-5
 slice-aggregate-put-item-5 c = search needs
 
 put-item-requires-5 : tie.Need-put-item-requires-5
-put-item-requires-5 c κs = omega (arith, c .before .before .before .before .before .before .before .before .before .before .before .before .before .before .before .before .before .before .before .before .before .before .before .pre, item-short (bytes "(end (boards ") (c .before .before .before .before .before .before .before .before .before .before .before .before .before .before .before .before .before .before .before .before .before .before .before .args .n) (omega arith) (omega (arith, c .before .before .before .before .before .before .before .before .before .before .before .before .before .before .before .before .before .before .before .before .before .before .before .good)), item-short (bytes ") (holder ") (c .before .before .before .before .before .before .before .before .before .before .before .before .before .before .before .before .before .before .before .before .before .before .before .args .pos) (omega arith) (omega (arith, c .before .before .before .before .before .before .before .before .before .before .before .before .before .before .before .before .before .before .before .before .before .before .before .good)), item-short (bytes ") (moves ") (c .before .before .before .before .before .before .before .before .before .before .before .before .before .before .before .before .before .before .before .before .before .before .before .args .moves) (omega arith) (omega (arith, c .before .before .before .before .before .before .before .before .before .before .before .before .before .before .before .before .before .before .before .before .before .before .before .good)), item-short (bytes ") (flight ") (c .before .before .before .before .before .before .before .before .before .before .before .before .before .before .before .before .before .before .before .before .before .before .before .args .flight) (omega arith) (omega (arith, c .before .before .before .before .before .before .before .before .before .before .before .before .before .before .before .before .before .before .before .before .before .before .before .good)), item-short (bytes ") (black ") (c .before .before .before .before .before .before .before .before .before .before .before .before .before .before .before .before .before .before .before .before .before .before .before .args .black) (omega arith) (omega (arith, c .before .before .before .before .before .before .before .before .before .before .before .before .before .before .before .before .before .before .before .before .before .before .before .good)), c .before .before .before .before .before .before .before .before .before .before .before .before .before .before .before .before .before .before .before .put-item .kept .0, c .before .before .before .before .before .before .before .before .before .before .before .before .before .before .before .before .before .before .before .put-item .ensures .0, c .before .before .before .before .before .before .before .before .before .before .before .before .before .before .put-item2 .kept .0, c .before .before .before .before .before .before .before .before .before .before .before .before .before .before .put-item2 .ensures .0, c .before .before .before .before .before .before .before .before .before .put-item3 .kept .0, c .before .before .before .before .before .before .before .before .before .put-item3 .ensures .0, c .before .before .before .before .put-item4 .kept .0, c .before .before .before .before .put-item4 .ensures .0)
+put-item-requires-5 c κs =
+    let at-put-item4 = c .before .before .before .before in
+    let at-put-item3 = at-put-item4 .before .before .before .before .before in
+    let at-put-item2 = at-put-item3 .before .before .before .before .before in
+    let at-put-item = at-put-item2 .before .before .before .before .before in
+    let start = at-put-item .before .before .before .before in
+    omega (
+      arith,
+      start .pre,
+      item-short (bytes "(end (boards ") (start .args .n) (omega arith) (omega (arith, start .good)),
+      item-short
+          (bytes ") (holder ") (start .args .pos) (omega arith) (omega (arith, start .good)),
+      item-short (bytes ") (moves ") (start .args .moves)
+          (omega arith) (omega (arith, start .good)),
+      item-short (bytes ") (flight ") (start .args .flight) (omega arith) (omega (arith, start .good)),
+      item-short (bytes ") (black ") (start .args .black) (omega arith) (omega (arith, start .good)),
+      at-put-item .put-item .kept .0,
+      at-put-item .put-item .ensures .0,
+      at-put-item2 .put-item2 .kept .0,
+      at-put-item2 .put-item2 .ensures .0,
+      at-put-item3 .put-item3 .kept .0,
+      at-put-item3 .put-item3 .ensures .0,
+      at-put-item4 .put-item4 .kept .0,
+      at-put-item4 .put-item4 .ensures .0,
+    )
 
 slice-aggregate-put-word : tie.Need-slice-aggregate-put-word
 slice-aggregate-put-word c = search needs
 
 put-word-requires : tie.Need-put-word-requires
-put-word-requires c κs = omega (arith, c .before .before .before .before .before .before .before .before .before .before .before .before .before .before .before .before .before .before .before .before .before .before .before .before .before .before .before .before .pre, item-short (bytes "(end (boards ") (c .before .before .before .before .before .before .before .before .before .before .before .before .before .before .before .before .before .before .before .before .before .before .before .before .before .before .before .before .args .n) (omega arith) (omega (arith, c .before .before .before .before .before .before .before .before .before .before .before .before .before .before .before .before .before .before .before .before .before .before .before .before .before .before .before .before .good)), item-short (bytes ") (holder ") (c .before .before .before .before .before .before .before .before .before .before .before .before .before .before .before .before .before .before .before .before .before .before .before .before .before .before .before .before .args .pos) (omega arith) (omega (arith, c .before .before .before .before .before .before .before .before .before .before .before .before .before .before .before .before .before .before .before .before .before .before .before .before .before .before .before .before .good)), item-short (bytes ") (moves ") (c .before .before .before .before .before .before .before .before .before .before .before .before .before .before .before .before .before .before .before .before .before .before .before .before .before .before .before .before .args .moves) (omega arith) (omega (arith, c .before .before .before .before .before .before .before .before .before .before .before .before .before .before .before .before .before .before .before .before .before .before .before .before .before .before .before .before .good)), item-short (bytes ") (flight ") (c .before .before .before .before .before .before .before .before .before .before .before .before .before .before .before .before .before .before .before .before .before .before .before .before .before .before .before .before .args .flight) (omega arith) (omega (arith, c .before .before .before .before .before .before .before .before .before .before .before .before .before .before .before .before .before .before .before .before .before .before .before .before .before .before .before .before .good)), item-short (bytes ") (black ") (c .before .before .before .before .before .before .before .before .before .before .before .before .before .before .before .before .before .before .before .before .before .before .before .before .before .before .before .before .args .black) (omega arith) (omega (arith, c .before .before .before .before .before .before .before .before .before .before .before .before .before .before .before .before .before .before .before .before .before .before .before .before .before .before .before .before .good)), c .before .before .before .before .before .before .before .before .before .before .before .before .before .before .before .before .before .before .before .before .before .before .before .before .put-item .kept .0, c .before .before .before .before .before .before .before .before .before .before .before .before .before .before .before .before .before .before .before .before .before .before .before .before .put-item .ensures .0, c .before .before .before .before .before .before .before .before .before .before .before .before .before .before .before .before .before .before .before .put-item2 .kept .0, c .before .before .before .before .before .before .before .before .before .before .before .before .before .before .before .before .before .before .before .put-item2 .ensures .0, c .before .before .before .before .before .before .before .before .before .before .before .before .before .before .put-item3 .kept .0, c .before .before .before .before .before .before .before .before .before .before .before .before .before .before .put-item3 .ensures .0, c .before .before .before .before .before .before .before .before .before .put-item4 .kept .0, c .before .before .before .before .before .before .before .before .before .put-item4 .ensures .0, c .before .before .before .before .put-item5 .kept .0, c .before .before .before .before .put-item5 .ensures .0)
+put-word-requires c κs =
+    let at-put-item5 = c .before .before .before .before in
+    let at-put-item4 = at-put-item5 .before .before .before .before .before in
+    let at-put-item3 = at-put-item4 .before .before .before .before .before in
+    let at-put-item2 = at-put-item3 .before .before .before .before .before in
+    let at-put-item = at-put-item2 .before .before .before .before .before in
+    let start = at-put-item .before .before .before .before in
+    omega (
+      arith,
+      start .pre,
+      item-short (bytes "(end (boards ") (start .args .n) (omega arith) (omega (arith, start .good)),
+      item-short
+          (bytes ") (holder ") (start .args .pos) (omega arith) (omega (arith, start .good)),
+      item-short (bytes ") (moves ") (start .args .moves)
+          (omega arith) (omega (arith, start .good)),
+      item-short (bytes ") (flight ") (start .args .flight) (omega arith) (omega (arith, start .good)),
+      item-short (bytes ") (black ") (start .args .black) (omega arith) (omega (arith, start .good)),
+      at-put-item .put-item .kept .0,
+      at-put-item .put-item .ensures .0,
+      at-put-item2 .put-item2 .kept .0,
+      at-put-item2 .put-item2 .ensures .0,
+      at-put-item3 .put-item3 .kept .0,
+      at-put-item3 .put-item3 .ensures .0,
+      at-put-item4 .put-item4 .kept .0,
+      at-put-item4 .put-item4 .ensures .0,
+      at-put-item5 .put-item5 .kept .0,
+      at-put-item5 .put-item5 .ensures .0,
+    )
 
 same-length : tie.Need-same-length
 same-length c = search needs
 
 returns : tie.Need-returns
-returns c = let a = c .before .before .before .before .before .before .before .before .before .before .before .before .before .before .before .before .before .before .before .before .before .before .before .before .before .before .before .before .before .before .before .args in ((item-wrote (bytes "(end (boards ") (a .n) (bytes ") (holder " ++ (decimal (a .pos) ++ (bytes ") (moves " ++ (decimal (a .moves) ++ (bytes ") (flight " ++ (decimal (a .flight) ++ (bytes ") (black " ++ (decimal (a .black) ++ bytes "))\n")))))))) (a .out .now) (a .at) (c .before .before .before .before .before .before .before .before .before .before .before .before .before .before .before .before .before .before .before .before .before .before .before .before .before .before .before .put-item .ensures) (item-wrote (bytes ") (holder ") (a .pos) (bytes ") (moves " ++ (decimal (a .moves) ++ (bytes ") (flight " ++ (decimal (a .flight) ++ (bytes ") (black " ++ (decimal (a .black) ++ bytes "))\n")))))) _ _ (c .before .before .before .before .before .before .before .before .before .before .before .before .before .before .before .before .before .before .before .before .before .before .put-item2 .ensures) (item-wrote (bytes ") (moves ") (a .moves) (bytes ") (flight " ++ (decimal (a .flight) ++ (bytes ") (black " ++ (decimal (a .black) ++ bytes "))\n")))) _ _ (c .before .before .before .before .before .before .before .before .before .before .before .before .before .before .before .before .before .put-item3 .ensures) (item-wrote (bytes ") (flight ") (a .flight) (bytes ") (black " ++ (decimal (a .black) ++ bytes "))\n")) _ _ (c .before .before .before .before .before .before .before .before .before .before .before .before .put-item4 .ensures) (item-wrote (bytes ") (black ") (a .black) (bytes "))\n") _ _ (c .before .before .before .before .before .before .before .put-item5 .ensures) (c .before .before .put-word .ensures)))))), omega (arith, item-length (bytes "(end (boards ") (a .n) (bytes ") (holder " ++ (decimal (a .pos) ++ (bytes ") (moves " ++ (decimal (a .moves) ++ (bytes ") (flight " ++ (decimal (a .flight) ++ (bytes ") (black " ++ (decimal (a .black) ++ bytes "))\n")))))))), item-short (bytes "(end (boards ") (a .n) (omega arith) (omega (arith, c .before .before .before .before .before .before .before .before .before .before .before .before .before .before .before .before .before .before .before .before .before .before .before .before .before .before .before .before .before .before .before .good)), item-length (bytes ") (holder ") (a .pos) (bytes ") (moves " ++ (decimal (a .moves) ++ (bytes ") (flight " ++ (decimal (a .flight) ++ (bytes ") (black " ++ (decimal (a .black) ++ bytes "))\n")))))), item-short (bytes ") (holder ") (a .pos) (omega arith) (omega (arith, c .before .before .before .before .before .before .before .before .before .before .before .before .before .before .before .before .before .before .before .before .before .before .before .before .before .before .before .before .before .before .before .good)), item-length (bytes ") (moves ") (a .moves) (bytes ") (flight " ++ (decimal (a .flight) ++ (bytes ") (black " ++ (decimal (a .black) ++ bytes "))\n")))), item-short (bytes ") (moves ") (a .moves) (omega arith) (omega (arith, c .before .before .before .before .before .before .before .before .before .before .before .before .before .before .before .before .before .before .before .before .before .before .before .before .before .before .before .before .before .before .before .good)), item-length (bytes ") (flight ") (a .flight) (bytes ") (black " ++ (decimal (a .black) ++ bytes "))\n")), item-short (bytes ") (flight ") (a .flight) (omega arith) (omega (arith, c .before .before .before .before .before .before .before .before .before .before .before .before .before .before .before .before .before .before .before .before .before .before .before .before .before .before .before .before .before .before .before .good)), item-length (bytes ") (black ") (a .black) (bytes "))\n"), item-short (bytes ") (black ") (a .black) (omega arith) (omega (arith, c .before .before .before .before .before .before .before .before .before .before .before .before .before .before .before .before .before .before .before .before .before .before .before .before .before .before .before .before .before .before .before .good))))
+returns c =
+    let at-put-item5 = c .before .before .before .before .before .before .before in
+    let at-put-item4 = at-put-item5 .before .before .before .before .before in
+    let at-put-item3 = at-put-item4 .before .before .before .before .before in
+    let at-put-item2 = at-put-item3 .before .before .before .before .before in
+    let at-put-item = at-put-item2 .before .before .before .before .before in
+    let start = at-put-item .before .before .before .before in
+    let a = start .args in (
+      (item-wrote (bytes "(end (boards ") (a .n)
+          (bytes ") (holder " ++
+          (decimal (a .pos) ++
+          (bytes ") (moves " ++
+          (decimal (a .moves) ++ (bytes ") (flight " ++ (decimal (a .flight) ++ (bytes ") (black " ++ (decimal (a .black) ++ bytes "))\n"))))))))
+          (a .out .now) (a .at) (at-put-item .put-item .ensures)
+          (item-wrote (bytes ") (holder ") (a .pos)
+          (bytes ") (moves " ++
+          (decimal (a .moves) ++ (bytes ") (flight " ++ (decimal (a .flight) ++ (bytes ") (black " ++ (decimal (a .black) ++ bytes "))\n")))))) _ _
+          (at-put-item2 .put-item2 .ensures)
+          (item-wrote (bytes ") (moves ") (a .moves)
+          (bytes ") (flight " ++ (decimal (a .flight) ++ (bytes ") (black " ++ (decimal (a .black) ++ bytes "))\n")))) _ _
+          (at-put-item3 .put-item3 .ensures)
+          (item-wrote (bytes ") (flight ") (a .flight) (bytes ") (black " ++ (decimal (a .black) ++ bytes "))\n")) _ _ (at-put-item4 .put-item4 .ensures)
+          (item-wrote (bytes ") (black ") (a .black) (bytes "))\n") _ _ (at-put-item5 .put-item5 .ensures) (c .before .before .put-word .ensures)))))),
+      omega (
+        arith,
+        item-length (bytes "(end (boards ") (a .n)
+            (bytes ") (holder " ++
+            (decimal (a .pos) ++
+            (bytes ") (moves " ++
+            (decimal (a .moves) ++ (bytes ") (flight " ++ (decimal (a .flight) ++ (bytes ") (black " ++ (decimal (a .black) ++ bytes "))\n")))))))),
+        item-short (bytes "(end (boards ") (a .n) (omega arith) (omega (arith, start .good)),
+        item-length (bytes ") (holder ") (a .pos)
+            (bytes ") (moves " ++
+            (decimal (a .moves) ++ (bytes ") (flight " ++ (decimal (a .flight) ++ (bytes ") (black " ++ (decimal (a .black) ++ bytes "))\n")))))),
+        item-short (bytes ") (holder ") (a .pos) (omega arith) (omega (arith, start .good)),
+        item-length (bytes ") (moves ") (a .moves)
+            (bytes ") (flight " ++ (decimal (a .flight) ++ (bytes ") (black " ++ (decimal (a .black) ++ bytes "))\n")))),
+        item-short (bytes ") (moves ")
+            (a .moves) (omega arith) (omega (arith, start .good)),
+        item-length (bytes ") (flight ") (a .flight)
+            (bytes ") (black " ++ (decimal (a .black) ++ bytes "))\n")),
+        item-short (bytes ") (flight ") (a .flight) (omega arith)
+            (omega (arith, start .good)),
+        item-length (bytes ") (black ") (a .black) (bytes "))\n"),
+        item-short (bytes ") (black ") (a .black) (omega arith)
+            (omega (arith, start .good)),
+      ),
+    )
 
 pub put-counts-spec : {M : Type 1} → statement M
 put-counts-spec =

@@ -39,8 +39,15 @@ put-cut-requires-2 : tie.Need-put-cut-requires-2
 put-cut-requires-2 c κs = search needs
 
 put-tree-end-requires : tie.Need-put-tree-end-requires
-put-tree-end-requires c κs = let p = c .before .before .before .before .before .before .before .before .before .before .pre in let l = c .before .before .before .before .before .before .before .before .before .before .args .log in
-    (omega (arith, p .1, c .before .before .before .before .put-cut2 .ensures .1, c .before .before .before .before .put-cut2 .kept), subst (λ (x : code.Stage). SoundStage (stageBy x (l .ring) (l .moves) (l .tree)) (l .lines)) (c .before .before .before .before .before .before .enum-told3 .given .1) (p .0 .sound))
+put-tree-end-requires c κs =
+    let at-put-cut2 = c .before .before .before .before in
+    let at-enum-told3 = at-put-cut2 .before .before in
+    let start = at-enum-told3 .before .before .before .before in
+    let p = start .pre in let l = start .args .log in (
+      omega (arith, p .1, at-put-cut2 .put-cut2 .ensures .1, at-put-cut2 .put-cut2 .kept),
+      subst
+          (λ (x : code.Stage). SoundStage (stageBy x (l .ring) (l .moves) (l .tree)) (l .lines)) (at-enum-told3 .enum-told3 .given .1) (p .0 .sound),
+    )
 
 enum-told-4 : tie.Need-enum-told-4
 enum-told-4 c = search needs
@@ -49,31 +56,43 @@ same-length : tie.Need-same-length
 same-length c = search needs
 
 returns : tie.Need-returns
-returns c = let p = c .before .before .before .before .before .before .before .before .pre in let l = c .before .before .before .before .before .before .before .before .args .log in let line = c .before .before .before .before .before .before .before .before .args .line .now in
-    let e = ap (λ (x : code.Stage). stageBy x (l .ring) (l .moves) (l .tree)) (c .before .before .before .before .enum-told .given .1) in
-    finished l line e (fresh-end line (l .lines) (l .len) (p .0 .places) (p .0 .part)) (c .before .before .put-answer .ensures) (omega (arith, p .1, c .before .before .put-answer .ensures .0, answer-short 1 (Refused NotAForm) (omega arith)))
+returns c =
+    let at-enum-told = c .before .before .before .before in
+    let start = at-enum-told .before .before .before .before in
+    let p = start .pre in let l = start .args .log in let line = start .args .line .now in
+    let e = ap (λ (x : code.Stage). stageBy x (l .ring) (l .moves) (l .tree)) (at-enum-told .enum-told .given .1) in
+    finished l line e (fresh-end line (l .lines) (l .len) (p .0 .places) (p .0 .part)) (c .before .before .put-answer .ensures)
+    (omega (arith, p .1, c .before .before .put-answer .ensures .0, answer-short 1 (Refused NotAForm) (omega arith)))
 
 same-length-2 : tie.Need-same-length-2
 same-length-2 c = search needs
 
 returns-2 : tie.Need-returns-2
-returns-2 c = let p = c .before .before .before .before .before .before .before .before .before .before .before .before .before .pre in let l = c .before .before .before .before .before .before .before .before .before .before .before .before .before .args .log in let line = c .before .before .before .before .before .before .before .before .before .before .before .before .before .args .line .now in
-    let e = ap (λ (x : code.Stage). stageBy x (l .ring) (l .moves) (l .tree)) (c .before .before .before .before .before .before .before .before .before .enum-told2 .given .1) in
-    let u = c .before .before .before .before .before .before .before .put-cut .ensures in
+returns-2 c =
+    let at-put-cut = c .before .before .before .before .before .before .before in
+    let at-enum-told2 = at-put-cut .before .before in
+    let start = at-enum-told2 .before .before .before .before in
+    let p = start .pre in let l = start .args .log in let line = start .args .line .now in
+    let e = ap (λ (x : code.Stage). stageBy x (l .ring) (l .moves) (l .tree)) (at-enum-told2 .enum-told2 .given .1) in
+    let u = at-put-cut .put-cut .ensures in
     let v = c .before .before .put-ring-end .ensures in
     finished l line e (run-end line (l .lines) (l .len) (p .0 .places) (p .0 .part) (rules.onRing (ringView.state (l .ring)) (l .moves)) refl)
-    (wrote-then _ _ (c .before .before .before .before .before .before .before .before .before .before .before .before .before .args .out .now) 0 (u .0) (v .0)) (omega (arith, p .1, u .1, v .0 .0, v .1))
+    (wrote-then _ _ (start .args .out .now) 0 (u .0) (v .0)) (omega (arith, p .1, u .1, v .0 .0, v .1))
 
 same-length-3 : tie.Need-same-length-3
 same-length-3 c = search needs
 
 returns-3 : tie.Need-returns-3
-returns-3 c = let p = c .before .before .before .before .before .before .before .before .before .before .before .before .before .pre in let l = c .before .before .before .before .before .before .before .before .before .before .before .before .before .args .log in let line = c .before .before .before .before .before .before .before .before .before .before .before .before .before .args .line .now in
-    let e = ap (λ (x : code.Stage). stageBy x (l .ring) (l .moves) (l .tree)) (c .before .before .before .before .before .before .before .before .before .enum-told3 .given .1) in
-    let u = c .before .before .before .before .before .before .before .put-cut2 .ensures in
+returns-3 c =
+    let at-put-cut2 = c .before .before .before .before .before .before .before in
+    let at-enum-told3 = at-put-cut2 .before .before in
+    let start = at-enum-told3 .before .before .before .before in
+    let p = start .pre in let l = start .args .log in let line = start .args .line .now in
+    let e = ap (λ (x : code.Stage). stageBy x (l .ring) (l .moves) (l .tree)) (at-enum-told3 .enum-told3 .given .1) in
+    let u = at-put-cut2 .put-cut2 .ensures in
     let v = c .before .before .put-tree-end .ensures in
     finished l line e (run-end line (l .lines) (l .len) (p .0 .places) (p .0 .part) (rules.onTree (treeView.state (l .tree))) refl)
-    (wrote-then _ _ (c .before .before .before .before .before .before .before .before .before .before .before .before .before .args .out .now) 0 (u .0) (v .0)) (omega (arith, p .1, u .1, v .0 .0, v .1))
+    (wrote-then _ _ (start .args .out .now) 0 (u .0) (v .0)) (omega (arith, p .1, u .1, v .0 .0, v .1))
 
 returns-4 : tie.Need-returns-4
 unfolding put

@@ -17,7 +17,9 @@ returns c = let a = c .before .before .args in let e = no-cut (a .lines) (a .len
 
 returns-2 : tie.Need-returns-2
 unfolding put
-returns-2 c = let a = c .before .before .before .args in let e = full-cut (a .lines) (a .len) (c .if2 .taken) (c .before .if1 .left) in ((omega (arith, ap length e), rw e), omega arith)
+returns-2 c =
+    let start = c .before .before .before in
+    let a = start .args in let e = full-cut (a .lines) (a .len) (c .if2 .taken) (c .before .if1 .left) in ((omega (arith, ap length e), rw e), omega arith)
 
 add-put-answer : tie.Need-add-put-answer
 add-put-answer c = search needs
@@ -29,9 +31,16 @@ same-length : tie.Need-same-length
 same-length c = search needs
 
 returns-3 : tie.Need-returns-3
-returns-3 c = let a = c .before .before .before .before .before .before .before .args in
-    let e = some-cut (a .lines) (a .len) (omega arith) (c .before .before .before .before .before .if1 .left) in
-    rw e (c .before .before .put-answer .ensures, omega (arith, c .before .before .put-answer .ensures .0, answer-short (a .lines + 1) (Refused NotAForm) (omega arith)))
+returns-3 c =
+    let at-if1 = c .before .before .before .before .before in
+    let start = at-if1 .before .before in
+    let a = start .args in
+    let e = some-cut (a .lines) (a .len) (omega arith) (at-if1 .if1 .left) in
+    rw e (
+      c .before .before .put-answer .ensures,
+      omega
+          (arith, c .before .before .put-answer .ensures .0, answer-short (a .lines + 1) (Refused NotAForm) (omega arith)),
+    )
 
 pub put-cut-spec : {M : Type 1} → statement M
 put-cut-spec =

@@ -15,7 +15,10 @@ same-length : tie.Need-same-length
 same-length c = search needs
 
 returns : tie.Need-returns
-returns c = rw (no-nodes (c .before .before .before .before .before .before .args .f) (c .before .before .before .before .if1 .taken)) (c .before .before .refuse .ensures)
+returns c =
+    let at-if1 = c .before .before .before .before in
+    let start = at-if1 .before .before in
+    rw (no-nodes (start .args .f) (at-if1 .if1 .taken)) (c .before .before .refuse .ensures)
 
 refuse-requires-2 : tie.Need-refuse-requires-2
 refuse-requires-2 c κs = search needs
@@ -24,7 +27,10 @@ same-length-2 : tie.Need-same-length-2
 same-length-2 c = search needs
 
 returns-2 : tie.Need-returns-2
-returns-2 c = rw (many-nodes (c .before .before .before .before .before .before .before .args .f) (c .before .before .before .before .if2 .taken)) (c .before .before .refuse2 .ensures)
+returns-2 c =
+    let at-if2 = c .before .before .before .before in
+    let start = at-if2 .before .before .before in
+    rw (many-nodes (start .args .f) (at-if2 .if2 .taken)) (c .before .before .refuse2 .ensures)
 
 refuse-requires-3 : tie.Need-refuse-requires-3
 refuse-requires-3 c κs = search needs
@@ -33,7 +39,11 @@ same-length-3 : tie.Need-same-length-3
 same-length-3 c = search needs
 
 returns-3 : tie.Need-returns-3
-returns-3 c = rw (unknown-node (c .before .before .before .before .before .before .before .before .before .args .f) (omega arith) (c .before .before .before .before .before .before .if2 .left) (c .before .before .before .before .if3 .taken)) (c .before .before .refuse3 .ensures)
+returns-3 c =
+    let at-if3 = c .before .before .before .before in
+    let at-if2 = at-if3 .before .before in
+    let start = at-if2 .before .before .before in
+    rw (unknown-node (start .args .f) (omega arith) (at-if2 .if2 .left) (at-if3 .if3 .taken)) (c .before .before .refuse3 .ensures)
 
 array-share-prefix-flags : tie.Need-array-share-prefix-flags
 array-share-prefix-flags c = search needs
@@ -54,7 +64,12 @@ same-length-4 : tie.Need-same-length-4
 same-length-4 c = search needs
 
 returns-4 : tie.Need-returns-4
-returns-4 c = ring-begins (c .before .before .before .before .before .before .before .before .before .before .before .before .before .before .args .f) (omega arith) (c .before .before .before .before .before .before .before .before .before .before .before .if2 .left) (c .before .before .before .before .before .before .before .before .before .before .before .before .before .before .pre .1) (omega arith) (c .before .before .before .before .before .before .start .ensures) refl (c .before .before .put-answer .ensures)
+returns-4 c =
+    let at-start = c .before .before .before .before .before .before in
+    let at-if2 = at-start .before .before .before .before .before in
+    let start-14 = at-if2 .before .before .before in
+    ring-begins (start-14 .args .f) (omega arith) (at-if2 .if2 .left) (start-14 .pre .1) (omega arith) (at-start .start .ensures) refl
+    (c .before .before .put-answer .ensures)
 
 pub open-ring-spec : {M : Type 1} → statement M
 open-ring-spec =

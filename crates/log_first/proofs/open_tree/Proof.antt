@@ -29,13 +29,21 @@ same-length : tie.Need-same-length
 same-length c = search needs
 
 returns : tie.Need-returns
-returns c = tree-begins (c .before .before .before .before .before .before .before .before .before .before .args .f) (c .before .before .before .before .before .before .before .before .start .ensures) (c .before .before .before .before .before .before .enum-told .given .1) refl (c .before .before .put-answer .ensures)
+returns c =
+    let at-enum-told = c .before .before .before .before .before .before in
+    let at-start = at-enum-told .before .before in
+    let start-10 = at-start .before .before in
+    tree-begins (start-10 .args .f) (at-start .start .ensures) (at-enum-told .enum-told .given .1) refl (c .before .before .put-answer .ensures)
 
 same-length-2 : tie.Need-same-length-2
 same-length-2 c = search needs
 
 returns-2 : tie.Need-returns-2
-returns-2 c = no-tree (c .before .before .before .before .before .before .before .before .before .args .f) (c .before .before .before .before .before .before .before .start .ensures) (c .before .before .before .before .before .v .given .1) (c .before .before .refuse .ensures)
+returns-2 c =
+    let at-v = c .before .before .before .before .before in
+    let at-start = at-v .before .before in
+    let start-9 = at-start .before .before in
+    no-tree (start-9 .args .f) (at-start .start .ensures) (at-v .v .given .1) (c .before .before .refuse .ensures)
 
 pub open-tree-spec : {M : Type 1} → statement M
 open-tree-spec =

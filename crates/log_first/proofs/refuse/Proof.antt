@@ -19,7 +19,10 @@ same-length : tie.Need-same-length
 same-length c = search needs
 
 returns : tie.Need-returns
-returns c = record { stage = refl; wrote = c .before .before .before .before .put-answer .ensures; sound = tt; begun = tt; short = answer-short 1 (Refused (c .before .before .before .before .before .before .before .args .e)) (omega arith) }
+returns c =
+    let at-put-answer = c .before .before .before .before in
+    let start = at-put-answer .before .before .before in
+    record { stage = refl; wrote = at-put-answer .put-answer .ensures; sound = tt; begun = tt; short = answer-short 1 (Refused (start .args .e)) (omega arith) }
 
 pub refuse-spec : {M : Type 1} → statement M
 refuse-spec =

@@ -17,14 +17,18 @@ enum-told-2 : tie.Need-enum-told-2
 enum-told-2 c = search needs
 
 held-ring-requires : tie.Need-held-ring-requires
-held-ring-requires c κs = let p = c .before .before .before .before .before .before .before .pre in let l = c .before .before .before .before .before .before .before .args .log in
+held-ring-requires c κs =
+    let start = c .before .before .before .before .before .before .before in
+    let p = start .pre in let l = start .args .log in
     (p .0, subst (λ (x : code.Stage). SoundStage (stageBy x (l .ring) (l .moves) (l .tree)) (l .lines)) (c .before .enum-told2 .given .1) (p .1))
 
 enum-told-3 : tie.Need-enum-told-3
 enum-told-3 c = search needs
 
 held-tree-requires : tie.Need-held-tree-requires
-held-tree-requires c κs = let p = c .before .before .before .before .before .before .before .pre in let l = c .before .before .before .before .before .before .before .args .log in
+held-tree-requires c κs =
+    let start = c .before .before .before .before .before .before .before in
+    let p = start .pre in let l = start .args .log in
     (p .0, subst (λ (x : code.Stage). SoundStage (stageBy x (l .ring) (l .moves) (l .tree)) (l .lines)) (c .before .enum-told3 .given .1) (p .1))
 
 enum-told-4 : tie.Need-enum-told-4
@@ -52,7 +56,9 @@ returns-3 : tie.Need-returns-3
 returns-3 c = rw (c .before .before .before .before .enum-told3 .given .1) (c .before .before .held-tree .ensures)
 
 returns-4 : tie.Need-returns-4
-returns-4 c = let p = c .before .before .before .before .before .before .before .pre in let l = c .before .before .before .before .before .before .before .args .log in
+returns-4 c =
+    let start = c .before .before .before .before .before .before .before in
+    let p = start .pre in let l = start .args .log in
     let e = ap (λ (x : code.Stage). stageBy x (l .ring) (l .moves) (l .tree)) (c .before .enum-told4 .given .1) in
     let u = c .holding .ensures in
     over-held l _ e (u .0 ∙ e) (u .1) (u .2) refl (omega (arith, p .0 .under))

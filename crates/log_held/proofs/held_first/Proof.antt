@@ -20,8 +20,13 @@ same-length : tie.Need-same-length
 same-length c = search needs
 
 returns : tie.Need-returns
-returns c = let p = c .before .before .before .before .before .before .before .before .pre in
-    first-held _ _ _ (c .before .before .before .refuse .ensures) (c .begun .ensures) (p .under) (λ l s en. long-told rules.fresh _ l (ended-itself en) (s .long (c .before .before .before .before .before .if1 .taken)))
+returns c =
+    let at-refuse = c .before .before .before in
+    let at-if1 = at-refuse .before .before in
+    let start = at-if1 .before .before .before in
+    let p = start .pre in
+    first-held _ _ _ (at-refuse .refuse .ensures) (c .begun .ensures) (p .under)
+    (λ l s en. long-told rules.fresh _ l (ended-itself en) (s .long (at-if1 .if1 .taken)))
 
 slice-aggregate-open-run : tie.Need-slice-aggregate-open-run
 slice-aggregate-open-run c = sym (length-take-le _ _ (omega (arith, c .before .before .before .before .pre .places)))
@@ -36,8 +41,13 @@ same-length-2 : tie.Need-same-length-2
 same-length-2 c = search needs
 
 returns-2 : tie.Need-returns-2
-returns-2 c = let p = c .before .before .before .before .before .before .before .before .before .pre in
-    first-held _ _ _ (c .before .before .before .open-run .ensures) (c .begun2 .ensures) (p .under) (λ l s en. first-told _ l ∙ ap (rules.lineTold rules.fresh 1) (s .small (c .before .before .before .before .before .before .if1 .left)))
+returns-2 c =
+    let at-open-run = c .before .before .before in
+    let at-if1 = at-open-run .before .before .before in
+    let start = at-if1 .before .before .before in
+    let p = start .pre in
+    first-held _ _ _ (at-open-run .open-run .ensures) (c .begun2 .ensures) (p .under)
+    (λ l s en. first-told _ l ∙ ap (rules.lineTold rules.fresh 1) (s .small (at-if1 .if1 .left)))
 
 pub held-first-spec : {M : Type 1} → statement M
 held-first-spec =

@@ -24,7 +24,10 @@ add-result : tie.Need-add-result Inv-loop μ-loop
 add-result c = omega arith
 
 returns : tie.Need-returns Inv-loop μ-loop
-returns c = sym (end-here (c .before .before .before .before .args .piece .now) (c .before .before .before .loop .i) (search needs) (c .if1 .taken)) ∙ c .before .before .before .loop .inv
+returns c =
+    let at-loop = c .before .before .before in
+    let start = at-loop .before in
+    sym (end-here (start .args .piece .now) (at-loop .loop .i) (search needs) (c .if1 .taken)) ∙ at-loop .loop .inv
 
 add-i : tie.Need-add-i Inv-loop μ-loop
 add-i c = omega arith
@@ -33,7 +36,10 @@ loop-less : tie.Need-loop-less Inv-loop μ-loop
 loop-less c = omega arith
 
 loop-again : tie.Need-loop-again Inv-loop μ-loop
-loop-again c = sym (end-more (c .before .before .before .before .args .piece .now) (c .before .before .before .loop .i) (search needs) (c .if1 .left)) ∙ c .before .before .before .loop .inv
+loop-again c =
+    let at-loop = c .before .before .before in
+    let start = at-loop .before in
+    sym (end-more (start .args .piece .now) (at-loop .loop .i) (search needs) (c .if1 .left)) ∙ at-loop .loop .inv
 
 returns-2 : tie.Need-returns-2 Inv-loop μ-loop
 returns-2 c = sym (end-none (c .before .before .args .piece .now) (c .before .loop .i) (search needs)) ∙ c .before .loop .inv

@@ -22,23 +22,38 @@ loop-holds : tie.Need-loop-holds Inv-loop μ-loop
 loop-holds c = (run-none _ _ _ _ (c .before .before .pre), refl)
 
 turn-requires : tie.Need-turn-requires Inv-loop μ-loop
-turn-requires c κs = let l = c .before .before .before .before .before .before .before .before .before .before .loop in (run-fits (c .before .before .before .before .before .before .before .before .before .before .before .before .before .pre) (l .inv .0) (l .inv .1), omega arith, ltb-true _ _ (c .before .before .before .before .before .before .if2 .taken))
+turn-requires c κs =
+    let at-if2 = c .before .before .before .before .before .before in
+    let at-loop = at-if2 .before .before .before .before in
+    let start = at-loop .before .before .before in
+    let l = at-loop .loop in (run-fits (start .pre) (l .inv .0) (l .inv .1), omega arith, ltb-true _ _ (at-if2 .if2 .taken))
 
 same-length : tie.Need-same-length Inv-loop μ-loop
-same-length c = omega (arith, c .before .before .before .before .before .before .before .before .before .before .before .before .before .before .before .before .loop .inv .1)
+same-length c =
+    let at-loop = c .before .before .before .before .before .before .before .before .before .before .before .before .before .before .before .before in
+    omega (arith, at-loop .loop .inv .1)
 
 returns : tie.Need-returns Inv-loop μ-loop
-returns c = let l = c .before .before .before .before .before .before .before .before .before .before .before .before .before .before .before .before .loop in
-    let u = c .before .before .before .before .before .turn in
+returns c =
+    let at-turn = c .before .before .before .before .before in
+    let at-loop = at-turn .before .before .before .before .before .before .before .before .before .before .before in
+    let start = at-loop .before .before .before in
+    let l = at-loop .loop in
+    let u = at-turn .turn in
     let same = c .if3 .taken in
-    (run-then (l .inv .0) (u .ensures .0), cut (subst⁻¹ (λ (n : ℕ). hasLine (drop n (c .before .before .before .before .before .before .before .before .before .before .before .before .before .before .before .before .before .before .before .args .piece .now)) ≡ false) same (u .ensures .1 same)))
+    (run-then (l .inv .0) (u .ensures .0), cut (subst⁻¹ (λ (n : ℕ). hasLine (drop n (start .args .piece .now)) ≡ false) same (u .ensures .1 same)))
 
 loop-less : tie.Need-loop-less Inv-loop μ-loop
-loop-less c = omega (arith, c .before .before .before .before .before .turn .ensures .0 .went .room, c .before .before .before .before .before .turn .ensures .0 .went .inside)
+loop-less c =
+    let at-turn = c .before .before .before .before .before in
+    omega (arith, at-turn .turn .ensures .0 .went .room, at-turn .turn .ensures .0 .went .inside)
 
 loop-again : tie.Need-loop-again Inv-loop μ-loop
-loop-again c = let l = c .before .before .before .before .before .before .before .before .before .before .before .before .before .before .before .before .loop in
-    let u = c .before .before .before .before .before .turn in
+loop-again c =
+    let at-turn = c .before .before .before .before .before in
+    let at-loop = at-turn .before .before .before .before .before .before .before .before .before .before .before in
+    let l = at-loop .loop in
+    let u = at-turn .turn in
     (run-then (l .inv .0) (u .ensures .0), omega (arith, l .inv .1))
 
 same-length-2 : tie.Need-same-length-2 Inv-loop μ-loop
@@ -51,7 +66,9 @@ same-length-3 : tie.Need-same-length-3 Inv-loop μ-loop
 same-length-3 c = c .before .before .loop .inv .1
 
 returns-3 : tie.Need-returns-3 Inv-loop μ-loop
-returns-3 c = (c .before .before .loop .inv .0, cut (none-left (c .before .before .before .before .before .args .piece .now) (c .before .before .loop .r .next) (omega arith)))
+returns-3 c =
+    let start = c .before .before .before .before .before in
+    (c .before .before .loop .inv .0, cut (none-left (start .args .piece .now) (c .before .before .loop .r .next) (omega arith)))
 
 pub run-lines-spec : {M : Type 1} → statement M
 run-lines-spec =

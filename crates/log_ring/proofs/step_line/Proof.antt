@@ -23,13 +23,23 @@ add-lines : tie.Need-add-lines
 add-lines c = search needs
 
 put-answer-requires : tie.Need-put-answer-requires
-put-answer-requires c κs = omega (arith, c .before .before .before .before .before .before .before .before .before .before .before .before .before .before .pre .room, answer-short (c .before .before .before .before .before .before .before .before .before .before .before .before .before .before .args .r .lines + 1) (c .before .before .before .before .before .step .result .verdict) (omega (arith, c .before .before .before .before .before .before .before .before .before .before .before .before .before .before .pre .under)))
+put-answer-requires c κs =
+    let at-step = c .before .before .before .before .before in
+    let start = at-step .before .before .before .before .before .before .before .before .before in
+    omega (arith, start .pre .room, answer-short (start .args .r .lines + 1) (at-step .step .result .verdict) (omega (arith, start .pre .under)))
 
 same-length : tie.Need-same-length
 same-length c = search needs
 
 returns : tie.Need-returns
-returns c = step-answered _ _ _ _ _ _ _ _ (c .before .before .before .before .before .before .before .before .step .result .verdict) (c .before .before .before .before .before .before .before .before .before .before .before .before .before .before .request-of .result .kind) (c .before .before .before .before .before .before .before .before .before .before .before .before .before .before .request-of .result .i) (c .before .before .before .before .before .before .before .before .before .before .before .before .before .before .request-of .result .j) (c .before .before .before .before .before .before .moved .result) (c .before .before .before .before .before .before .before .before .before .before .before .before .before .before .before .before .before .pre .sound) (c .before .before .before .before .before .before .before .before .before .before .before .before .before .before .before .before .before .pre .few) (c .before .before .before .before .before .before .before .before .step .ensures) (c .before .before .before .before .before .before .before .before .before .before .before .before .before .before .request-of .ensures) (c .before .before .before .before .before .before .moved .ensures) refl refl refl (c .before .before .put-answer .ensures)
+returns c =
+    let at-moved = c .before .before .before .before .before .before in
+    let at-step = at-moved .before .before in
+    let at-request-of = at-step .before .before .before .before .before .before in
+    let start = at-request-of .before .before .before in
+    step-answered _ _ _ _ _ _ _ _ (at-step .step .result .verdict) (at-request-of .request-of .result .kind) (at-request-of .request-of .result .i)
+    (at-request-of .request-of .result .j) (at-moved .moved .result) (start .pre .sound) (start .pre .few) (at-step .step .ensures)
+    (at-request-of .request-of .ensures) (at-moved .moved .ensures) refl refl refl (c .before .before .put-answer .ensures)
 
 pub step-line-spec : {M : Type 1} → statement M
 step-line-spec =

@@ -11,13 +11,17 @@ enum-told : tie.Need-enum-told
 enum-told c = search needs
 
 put-ok-requires : tie.Need-put-ok-requires
-put-ok-requires c κs = let a = c .before .before .before .before .args in subst (λ (v : Verdict). a .at + length (answerText (a .k) v) ≤ length (a .out .now)) (c .before .enum-told .given .1) (c .before .before .before .before .pre)
+put-ok-requires c κs =
+    let start = c .before .before .before .before in
+    let a = start .args in subst (λ (v : Verdict). a .at + length (answerText (a .k) v) ≤ length (a .out .now)) (c .before .enum-told .given .1) (start .pre)
 
 enum-known-v : tie.Need-enum-known-v
 enum-known-v c = search needs
 
 put-no-requires : tie.Need-put-no-requires
-put-no-requires c κs = let a = c .before .before .before .before .before .args in subst (λ (v : Verdict). a .at + length (answerText (a .k) v) ≤ length (a .out .now)) (c .before .before .v .given .1) (c .before .before .before .before .before .pre)
+put-no-requires c κs =
+    let start = c .before .before .before .before .before in
+    let a = start .args in subst (λ (v : Verdict). a .at + length (answerText (a .k) v) ≤ length (a .out .now)) (c .before .before .v .given .1) (start .pre)
 
 same-length : tie.Need-same-length
 same-length c = search needs

@@ -15,13 +15,20 @@ slice-aggregate-put-word : tie.Need-slice-aggregate-put-word
 slice-aggregate-put-word c = search needs
 
 put-word-requires : tie.Need-put-word-requires
-put-word-requires c κs = let a = c .before .before .before .before .before .before .before .before .args in omega (arith, c .before .before .before .before .put-item .kept .0, c .before .before .before .before .put-item .ensures .0, item-length (bytes "(ok ") (a .k) (bytes ")\n"))
+put-word-requires c κs =
+    let at-put-item = c .before .before .before .before in
+    let start = at-put-item .before .before .before .before in
+    let a = start .args in omega (arith, at-put-item .put-item .kept .0, at-put-item .put-item .ensures .0, item-length (bytes "(ok ") (a .k) (bytes ")\n"))
 
 same-length : tie.Need-same-length
 same-length c = search needs
 
 returns : tie.Need-returns
-returns c = let a = c .before .before .before .before .before .before .before .before .before .before .before .args in item-wrote (bytes "(ok ") (a .k) (bytes ")\n") (a .out .now) (a .at) (c .before .before .before .before .before .before .before .put-item .ensures) (c .before .before .put-word .ensures)
+returns c =
+    let at-put-item = c .before .before .before .before .before .before .before in
+    let start = at-put-item .before .before .before .before in
+    let a = start .args in item-wrote (bytes "(ok ") (a .k) (bytes ")\n") (a .out .now) (a .at) (at-put-item .put-item .ensures)
+    (c .before .before .put-word .ensures)
 
 pub put-ok-spec : {M : Type 1} → statement M
 put-ok-spec =

@@ -17,7 +17,9 @@ refused-requires : tie.Need-refused-requires
 refused-requires c κs = search needs
 
 returns : tie.Need-returns
-returns c = rw (c .refused .ensures .0, c .refused .ensures .1) (node-answer _ Pass _ _ (c .before .before .before .pre) refl (le-leb _ _ (c .before .if1 .taken)))
+returns c =
+    let start = c .before .before .before in
+    rw (c .refused .ensures .0, c .refused .ensures .1) (node-answer _ Pass _ _ (start .pre) refl (le-leb _ _ (c .before .if1 .taken)))
 
 element-copy-out-if2 : tie.Need-element-copy-out-if2
 element-copy-out-if2 c = search needs
@@ -27,7 +29,11 @@ refused-requires-2 c κs = search needs
 
 returns-2 : tie.Need-returns-2
 unfolding mayPass
-returns-2 c = rw (c .refused2 .ensures .0, c .refused2 .ensures .1) (rule-answer _ Pass _ _ (c .before .before .before .before .before .before .pre) refl (lt-leb _ _ (c .before .before .before .before .if1 .left)) refl (not-true _ (c .before .if2 .taken)))
+returns-2 c =
+    let at-if1 = c .before .before .before .before in
+    let start = at-if1 .before .before in
+    rw (c .refused2 .ensures .0, c .refused2 .ensures .1)
+    (rule-answer _ Pass _ _ (start .pre) refl (lt-leb _ _ (at-if1 .if1 .left)) refl (not-true _ (c .before .if2 .taken)))
 
 is-black-requires : tie.Need-is-black-requires
 is-black-requires c κs = search needs
@@ -51,17 +57,47 @@ wide-requires-2 : tie.Need-wide-requires-2
 wide-requires-2 c κs = search needs
 
 plus-counter-requires : tie.Need-plus-counter-requires
-plus-counter-requires c κs = let f : SFits w64 (c .before .before .before .before .before .before .before .before .before .before .before .before .args .r .q) = search needs in rw (toZ-ofZ f) (small-sum (c .before .before .before .before .before .before .before .before .before .before .before .before .args .r .q) (c .before .before .before .before .before .before .before .before .before .before .before .before .args .r .n) (c .before .before .before .before .before .before .before .before .before .before .before .before .args .r .pos) (c .before .before .before .before .before .before .before .before .before .before .before .before .pre .sound .nodes) (c .before .before .before .before .before .before .before .before .before .before .before .before .pre .sound .range), omega arith, omega arith)
+plus-counter-requires c κs =
+    let f : SFits w64 (c .before .before .before .before .before .before .before .before .before .before .before .before .args .r .q) = search needs in
+    let start = c .before .before .before .before .before .before .before .before .before .before .before .before in
+    rw (toZ-ofZ f) (
+      small-sum (start .args .r .q) (start .args .r .n) (start .args .r .pos) (start .pre .sound .nodes) (start .pre .sound .range),
+      omega arith,
+      omega arith,
+    )
 
 whiten-requires : tie.Need-whiten-requires
 whiten-requires c κs = search needs
 
 sub-t24 : tie.Need-sub-t24
-sub-t24 c = ltb-true 0 (c .before .before .before .before .before .before .before .before .before .before .before .before .before .before .before .args .i) (both (ltb 0 (c .before .before .before .before .before .before .before .before .before .before .before .before .before .before .before .args .i)) _ (not-false _ (c .before .before .before .before .before .before .before .before .before .before .if2 .left)) .0)
+sub-t24 c =
+    let at-if2 = c .before .before .before .before .before .before .before .before .before .before in
+    let start = at-if2 .before .before .before .before .before in
+    ltb-true 0 (start .args .i) (both (ltb 0 (start .args .i)) _ (not-false _ (at-if2 .if2 .left)) .0)
 
 returns-3 : tie.Need-returns-3
 unfolding mayPass
-returns-3 c = let f : SFits w64 (c .before .before .before .before .before .before .before .before .before .before .before .before .before .before .before .before .args .r .q) = search needs in let g : SFits w64 (c .before .before .before .plus-counter .result) = search needs in rw (toZ-ofZ g, c .before .whiten .ensures, c .before .before .before .plus-counter .ensures, c .before .before .before .before .before .before .before .wide .ensures .0, c .before .before .before .before .before .wide2 .ensures .0, c .before .before .before .before .before .before .before .before .before .is-black .ensures, toZ-ofZ f) (accepted-answer _ Pass _ _ (c .before .before .before .before .before .before .before .before .before .before .before .before .before .before .before .before .pre) refl (lt-leb _ _ (c .before .before .before .before .before .before .before .before .before .before .before .before .before .before .if1 .left)) refl (not-false _ (c .before .before .before .before .before .before .before .before .before .before .before .if2 .left)) refl)
+returns-3 c =
+    let f : SFits w64
+    (c .before .before .before .before .before .before .before .before .before .before .before .before .before .before .before .before .args .r .q) = search needs in let g : SFits w64
+    (c .before .before .before .plus-counter .result) = search needs in
+    let at-plus-counter = c .before .before .before in
+    let at-wide2 = at-plus-counter .before .before in
+    let at-wide = at-wide2 .before .before in
+    let at-is-black = at-wide .before .before in
+    let at-if2 = at-is-black .before .before in
+    let at-if1 = at-if2 .before .before .before in
+    let start = at-if1 .before .before in
+    rw (
+      toZ-ofZ g,
+      c .before .whiten .ensures,
+      at-plus-counter .plus-counter .ensures,
+      at-wide .wide .ensures .0,
+      at-wide2 .wide2 .ensures .0,
+      at-is-black .is-black .ensures,
+      toZ-ofZ f,
+    )
+    (accepted-answer _ Pass _ _ (start .pre) refl (lt-leb _ _ (at-if1 .if1 .left)) refl (not-false _ (at-if2 .if2 .left)) refl)
 
 pub pass-spec : {M : Type 1} → statement M
 pass-spec =

@@ -13,7 +13,9 @@ refused-requires : tie.Need-refused-requires
 refused-requires c κs = search needs
 
 returns : tie.Need-returns
-returns c = rw (c .refused .ensures .0, c .refused .ensures .1) (node-answer _ Ack _ _ (c .before .before .before .pre) refl (le-leb _ _ (c .before .if1 .taken)))
+returns c =
+    let start = c .before .before .before in
+    rw (c .refused .ensures .0, c .refused .ensures .1) (node-answer _ Ack _ _ (start .pre) refl (le-leb _ _ (c .before .if1 .taken)))
 
 mul-if2 : tie.Need-mul-if2
 mul-if2 c = search needs
@@ -25,7 +27,12 @@ refused-requires-2 : tie.Need-refused-requires-2
 refused-requires-2 c κs = search needs
 
 returns-2 : tie.Need-returns-2
-returns-2 c = rw (c .refused2 .ensures .0, c .refused2 .ensures .1) (rule-answer _ Ack _ _ (c .before .before .before .before .before .pre) refl (lt-leb _ _ (c .before .before .before .if1 .left)) refl (le-ltb 0 (getD (c .before .before .before .before .before .args .acks .now) (c .before .before .before .before .before .args .i) 0) (omega arith)))
+returns-2 c =
+    let at-if1 = c .before .before .before in
+    let start = at-if1 .before .before in
+    rw (c .refused2 .ensures .0, c .refused2 .ensures .1)
+    (rule-answer _ Ack _ _ (start .pre) refl (lt-leb _ _ (at-if1 .if1 .left)) refl
+    (le-ltb 0 (getD (start .args .acks .now) (start .args .i) 0) (omega arith)))
 
 mul-acks : tie.Need-mul-acks
 mul-acks c = search needs
@@ -46,13 +53,19 @@ element-copy-out-unacked : tie.Need-element-copy-out-unacked
 element-copy-out-unacked c = search needs
 
 sub-unacked : tie.Need-sub-unacked
-sub-unacked c = omega (arith, ack-awaited _ (c .before .before .before .before .before .before .pre .sound) (c .before .before .before .before .before .before .args .i) (omega (arith, c .before .before .before .before .before .before .pre .sound .nodes)) (omega arith))
+sub-unacked c =
+    let start = c .before .before .before .before .before .before in
+    omega (arith, ack-awaited _ (start .pre .sound) (start .args .i) (omega (arith, start .pre .sound .nodes)) (omega arith))
 
 element-write-unacked : tie.Need-element-write-unacked
 element-write-unacked c = search needs
 
 returns-3 : tie.Need-returns-3
-returns-3 c = accepted-answer _ Ack _ _ (c .before .before .before .before .before .before .pre) refl (lt-leb _ _ (c .before .before .before .before .if1 .left)) refl (lt-ltb 0 (getD (c .before .before .before .before .before .before .args .acks .now) (c .before .before .before .before .before .before .args .i) 0) (omega arith)) refl
+returns-3 c =
+    let at-if1 = c .before .before .before .before in
+    let start = at-if1 .before .before in
+    accepted-answer _ Ack _ _ (start .pre) refl (lt-leb _ _ (at-if1 .if1 .left)) refl
+    (lt-ltb 0 (getD (start .args .acks .now) (start .args .i) 0) (omega arith)) refl
 
 pub ack-spec : {M : Type 1} → statement M
 ack-spec =

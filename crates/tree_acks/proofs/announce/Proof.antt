@@ -13,7 +13,10 @@ refused-requires : tie.Need-refused-requires
 refused-requires c κs = search needs
 
 returns : tie.Need-returns
-returns c = rw (c .refused .ensures .0, c .refused .ensures .1) (rule-answer _ Announce _ _ (c .before .before .before .pre) refl refl refl (sym (c .before .before .is-conclusive .ensures) ∙ not-true _ (c .before .if1 .taken)))
+returns c =
+    let start = c .before .before .before in
+    rw (c .refused .ensures .0, c .refused .ensures .1)
+    (rule-answer _ Announce _ _ (start .pre) refl refl refl (sym (c .before .before .is-conclusive .ensures) ∙ not-true _ (c .before .if1 .taken)))
 
 returns-2 : tie.Need-returns-2
 returns-2 c = accepted-answer _ Announce _ _ (c .before .before .pre) refl refl refl (sym (c .before .is-conclusive .ensures) ∙ not-false _ (c .if1 .left)) refl

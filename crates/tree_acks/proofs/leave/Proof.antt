@@ -12,7 +12,9 @@ refused-requires : tie.Need-refused-requires
 refused-requires c κs = search needs
 
 returns : tie.Need-returns
-returns c = rw (c .refused .ensures .0, c .refused .ensures .1) (node-answer _ Leave _ _ (c .before .before .before .pre) refl (le-leb _ _ (c .before .if1 .taken)))
+returns c =
+    let start = c .before .before .before in
+    rw (c .refused .ensures .0, c .refused .ensures .1) (node-answer _ Leave _ _ (start .pre) refl (le-leb _ _ (c .before .if1 .taken)))
 
 engager-of-requires : tie.Need-engager-of-requires
 engager-of-requires c κs = search needs
@@ -31,7 +33,13 @@ refused-requires-2 c κs = search needs
 
 returns-2 : tie.Need-returns-2
 unfolding mayLeave
-returns-2 c = rw (c .refused2 .ensures .0, c .refused2 .ensures .1) (rule-answer _ Leave _ _ (c .before .before .before .before .before .before .before .before .before .pre) refl (lt-leb _ _ (c .before .before .before .before .before .before .before .if1 .left)) refl (rw (← c .before .before .before .before .before .engager-of .ensures .0) (not-true _ (c .before .if2 .taken))))
+returns-2 c =
+    let at-engager-of = c .before .before .before .before .before in
+    let at-if1 = at-engager-of .before .before in
+    let start = at-if1 .before .before in
+    rw (c .refused2 .ensures .0, c .refused2 .ensures .1)
+    (rule-answer _ Leave _ _ (start .pre) refl (lt-leb _ _ (at-if1 .if1 .left)) refl
+    (rw (← at-engager-of .engager-of .ensures .0) (not-true _ (c .before .if2 .taken))))
 
 element-write-engager : tie.Need-element-write-engager
 element-write-engager c = search needs
@@ -41,19 +49,55 @@ mul-acks c = search needs
 
 element-copy-out-acks : tie.Need-element-copy-out-acks
 unfolding mayLeave
-element-copy-out-acks c = omega (arith, c .before .before .before .before .engager-of .ensures .0, leaver-engager _ (c .before .before .before .before .before .before .before .before .pre .sound) (c .before .before .before .before .before .before .before .before .args .i) (omega (arith, c .before .before .before .before .before .before .before .before .pre .sound .nodes)) (rw (← c .before .before .before .before .engager-of .ensures .0) (not-false _ (c .if2 .left))))
+element-copy-out-acks c =
+    let at-engager-of = c .before .before .before .before in
+    let start = at-engager-of .before .before .before .before in
+    omega (
+      arith,
+      at-engager-of .engager-of .ensures .0,
+      leaver-engager _ (start .pre .sound) (start .args .i) (omega (arith, start .pre .sound .nodes))
+          (rw (← at-engager-of .engager-of .ensures .0) (not-false _ (c .if2 .left))),
+    )
 
 add-acks : tie.Need-add-acks
 unfolding mayLeave
-add-acks c = record { fits = omega (arith, acks-small _ (c .before .before .before .before .before .before .before .before .before .pre .sound) (c .before .before .before .before .before .engager-of .result) (omega (arith, c .before .before .before .before .before .engager-of .ensures .0, leaver-engager _ (c .before .before .before .before .before .before .before .before .before .pre .sound) (c .before .before .before .before .before .before .before .before .before .args .i) (omega (arith, c .before .before .before .before .before .before .before .before .before .pre .sound .nodes)) (rw (← c .before .before .before .before .before .engager-of .ensures .0) (not-false _ (c .before .if2 .left)))))) }
+add-acks c =
+    let at-engager-of = c .before .before .before .before .before in
+    let start = at-engager-of .before .before .before .before in
+    record {
+      fits = omega (
+        arith,
+        acks-small _ (start .pre .sound) (at-engager-of .engager-of .result)
+            (omega (
+              arith,
+              at-engager-of .engager-of .ensures .0,
+              leaver-engager _ (start .pre .sound) (start .args .i) (omega (arith, start .pre .sound .nodes))
+                  (rw (← at-engager-of .engager-of .ensures .0) (not-false _ (c .before .if2 .left))),
+            )),
+      );
+    }
 
 element-write-acks : tie.Need-element-write-acks
 unfolding mayLeave
-element-write-acks c = omega (arith, c .before .before .before .before .before .engager-of .ensures .0, leaver-engager _ (c .before .before .before .before .before .before .before .before .before .pre .sound) (c .before .before .before .before .before .before .before .before .before .args .i) (omega (arith, c .before .before .before .before .before .before .before .before .before .pre .sound .nodes)) (rw (← c .before .before .before .before .before .engager-of .ensures .0) (not-false _ (c .before .if2 .left))))
+element-write-acks c =
+    let at-engager-of = c .before .before .before .before .before in
+    let start = at-engager-of .before .before .before .before in
+    omega (
+      arith,
+      at-engager-of .engager-of .ensures .0,
+      leaver-engager _ (start .pre .sound) (start .args .i) (omega (arith, start .pre .sound .nodes))
+          (rw (← at-engager-of .engager-of .ensures .0) (not-false _ (c .before .if2 .left))),
+    )
 
 returns-3 : tie.Need-returns-3
 unfolding mayLeave
-returns-3 c = rw (c .before .before .before .before .before .engager-of .ensures .0) (accepted-answer _ Leave _ _ (c .before .before .before .before .before .before .before .before .before .pre) refl (lt-leb _ _ (c .before .before .before .before .before .before .before .if1 .left)) refl (rw (← c .before .before .before .before .before .engager-of .ensures .0) (not-false _ (c .before .if2 .left))) refl)
+returns-3 c =
+    let at-engager-of = c .before .before .before .before .before in
+    let at-if1 = at-engager-of .before .before in
+    let start = at-if1 .before .before in
+    rw (at-engager-of .engager-of .ensures .0)
+    (accepted-answer _ Leave _ _ (start .pre) refl (lt-leb _ _ (at-if1 .if1 .left)) refl
+    (rw (← at-engager-of .engager-of .ensures .0) (not-false _ (c .before .if2 .left))) refl)
 
 pub leave-spec : {M : Type 1} → statement M
 leave-spec =

@@ -26,9 +26,14 @@ loop-less : tie.Need-loop-less Inv-loop μ-loop
 loop-less c = search needs
 
 loop-again : tie.Need-loop-again Inv-loop μ-loop
-loop-again c = let e = c .before .before .before .args .engager .now in
-    let k : ℕ = c .before .before .loop .k in
-    (omega arith, ap (climb e (16 - (k + 1))) (c .engager-of .ensures .0) ∙ sym (climb-link e 16 k (c .before .before .loop .at) (omega arith)) ∙ c .before .before .loop .inv .1)
+loop-again c =
+    let start = c .before .before .before in
+    let e = start .args .engager .now in
+    let k : ℕ = c .before .before .loop .k in (
+      omega arith,
+      ap (climb e (16 - (k + 1))) (c .engager-of .ensures .0) ∙ sym (climb-link e 16 k (c .before .before .loop .at) (omega arith))
+          ∙ c .before .before .loop .inv .1,
+    )
 
 returns : tie.Need-returns Inv-loop μ-loop
 unfolding climb

@@ -45,8 +45,11 @@ loop-again c = let root = c .before .before .before .before .args .root in
 
 returns : tie.Need-returns Inv-loop μ-loop
 unfolding children
-returns c = let done : c .before .loop .i ≡ 16 = omega arith in
-    (c .before .loop .inv .1 ∙ ap (λ (x : ℕ). countTo x (isChild (c .before .before .args .root) (c .before .before .args .engager .now) (c .before .before .args .j))) done, omega arith)
+returns c = let done : c .before .loop .i ≡ 16 = omega arith in (
+  c .before .loop .inv .1 ∙ ap
+      (λ (x : ℕ). countTo x (isChild (c .before .before .args .root) (c .before .before .args .engager .now) (c .before .before .args .j))) done,
+  omega arith,
+)
 
 pub children-of-spec : {M : Type 1} → statement M
 children-of-spec =

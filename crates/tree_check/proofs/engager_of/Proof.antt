@@ -13,7 +13,9 @@ node-requires : tie.Need-node-requires
 node-requires c κs = search needs
 
 returns : tie.Need-returns
-returns c = (c .node .ensures .0 ∙ any-default (c .before .before .before .args .engager .now) (c .before .before .before .args .i) 0 16 (omega arith), omega arith)
+returns c =
+    let start = c .before .before .before in
+    (c .node .ensures .0 ∙ any-default (start .args .engager .now) (start .args .i) 0 16 (omega arith), omega arith)
 
 returns-2 : tie.Need-returns-2
 returns-2 c = (sym (List·getD-eq-default (c .before .args .engager .now) 16 (omega arith)), omega arith)

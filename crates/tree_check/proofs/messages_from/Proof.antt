@@ -43,12 +43,18 @@ loop-less : tie.Need-loop-less Inv-loop μ-loop
 loop-less c = omega arith
 
 loop-again : tie.Need-loop-again Inv-loop μ-loop
-loop-again c = omega (arith, sum-next (c .before .before .before .loop .k) (λ m. getD (c .before .before .before .before .args .transit .now) (c .before .before .before .before .args .i * 16 + m) 0))
+loop-again c =
+    let at-loop = c .before .before .before in
+    let start = at-loop .before in
+    omega (arith, sum-next (at-loop .loop .k) (λ m. getD (start .args .transit .now) (start .args .i * 16 + m) 0))
 
 returns : tie.Need-returns Inv-loop μ-loop
 unfolding messagesFrom
-returns c = let done : c .before .loop .k ≡ 16 = omega arith in
-    (c .before .loop .inv .1 ∙ ap (λ (x : ℕ). sumTo x (λ m. getD (c .before .before .args .transit .now) (c .before .before .args .i * 16 + m) 0)) done, omega arith)
+returns c = let done : c .before .loop .k ≡ 16 = omega arith in (
+  c .before .loop .inv .1 ∙ ap
+      (λ (x : ℕ). sumTo x (λ m. getD (c .before .before .args .transit .now) (c .before .before .args .i * 16 + m) 0)) done,
+  omega arith,
+)
 
 pub messages-from-spec : {M : Type 1} → statement M
 messages-from-spec =

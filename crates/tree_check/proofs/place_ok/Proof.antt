@@ -53,7 +53,22 @@ pairs-ok-requires c κs = search needs
 
 returns : tie.Need-returns
 unfolding placeTest engagerTest chainTest balanceTest restTest
-returns c = rw (c .before .before .before .before .before .before .before .before .before .before .before .before .engager-of .ensures .0, c .before .before .before .before .before .before .before .before .before .before .before .chain-end .ensures, c .before .before .before .before .before .before .before .before .before .before .messages-from .ensures .0, c .before .before .before .before .before .before .before .before .before .children-of .ensures .0, c .before .before .before .before .before .before .before .wide .ensures .0, c .before .before .before .before .before .wide2 .ensures .0, c .before .before .pairs-ok .ensures)
+returns c =
+    let at-wide2 = c .before .before .before .before .before in
+    let at-wide = at-wide2 .before .before in
+    let at-children-of = at-wide .before .before in
+    let at-messages-from = at-children-of .before in
+    let at-chain-end = at-messages-from .before in
+    let at-engager-of = at-chain-end .before in
+    rw (
+      at-engager-of .engager-of .ensures .0,
+      at-chain-end .chain-end .ensures,
+      at-messages-from .messages-from .ensures .0,
+      at-children-of .children-of .ensures .0,
+      at-wide .wide .ensures .0,
+      at-wide2 .wide2 .ensures .0,
+      c .before .before .pairs-ok .ensures,
+    )
 
 pub place-ok-spec : {M : Type 1} → statement M
 place-ok-spec =

@@ -17,7 +17,9 @@ has-requires : tie.Need-has-requires
 has-requires c κs = search needs
 
 add-two-numbers : tie.Need-add-two-numbers
-add-two-numbers c = omega (arith, word-in (c .before .before .before .before .args .s .now) (c .before .before .before .before .args .at) (bytes "(send") (omega arith) (sym (c .before .has .ensures) ∙ c .if1 .taken))
+add-two-numbers c =
+    let start = c .before .before .before .before in
+    omega (arith, word-in (start .args .s .now) (start .args .at) (bytes "(send") (omega arith) (sym (c .before .has .ensures) ∙ c .if1 .taken))
 
 two-numbers-requires : tie.Need-two-numbers-requires
 two-numbers-requires c κs = search needs
@@ -28,8 +30,10 @@ tree-line-requires c κs = search needs
 returns : tie.Need-returns
 unfolding treeAt readBy
 returns c =
-    tree-told (c .before .before .before .before .before .before .args .s .now) (c .before .before .before .before .before .before .args .at) (c .tree-line .result)
-    (rw (sym (c .before .before .before .has .ensures) ∙ c .before .before .if1 .taken)
+    let at-has = c .before .before .before in
+    let start = at-has .before .before .before in
+    tree-told (start .args .s .now) (start .args .at) (c .tree-line .result)
+    (rw (sym (at-has .has .ensures) ∙ c .before .before .if1 .taken)
     (c .tree-line .ensures ∙ ap (λ (a : Args). treeLineOf (madeOf (treeKind 1) a)) (c .before .two-numbers .ensures)))
 
 slice-aggregate-has-2 : tie.Need-slice-aggregate-has-2
@@ -39,7 +43,9 @@ has-requires-2 : tie.Need-has-requires-2
 has-requires-2 c κs = search needs
 
 add-two-numbers-2 : tie.Need-add-two-numbers-2
-add-two-numbers-2 c = omega (arith, word-in (c .before .before .before .before .before .before .before .args .s .now) (c .before .before .before .before .before .before .before .args .at) (bytes "(take") (omega arith) (sym (c .before .has2 .ensures) ∙ c .if2 .taken))
+add-two-numbers-2 c =
+    let start = c .before .before .before .before .before .before .before in
+    omega (arith, word-in (start .args .s .now) (start .args .at) (bytes "(take") (omega arith) (sym (c .before .has2 .ensures) ∙ c .if2 .taken))
 
 two-numbers-requires-2 : tie.Need-two-numbers-requires-2
 two-numbers-requires-2 c κs = search needs
@@ -50,8 +56,12 @@ tree-line-requires-2 c κs = search needs
 returns-2 : tie.Need-returns-2
 unfolding treeAt readBy
 returns-2 c =
-    tree-told (c .before .before .before .before .before .before .before .before .before .args .s .now) (c .before .before .before .before .before .before .before .before .before .args .at) (c .tree-line2 .result)
-    (rw (sym (c .before .before .before .before .before .before .has .ensures) ∙ c .before .before .before .before .before .if1 .left, sym (c .before .before .before .has2 .ensures) ∙ c .before .before .if2 .taken)
+    let at-has2 = c .before .before .before in
+    let at-if1 = at-has2 .before .before in
+    let at-has = at-if1 .before in
+    let start = at-has .before .before .before in
+    tree-told (start .args .s .now) (start .args .at) (c .tree-line2 .result)
+    (rw (sym (at-has .has .ensures) ∙ at-if1 .if1 .left, sym (at-has2 .has2 .ensures) ∙ c .before .before .if2 .taken)
     (c .tree-line2 .ensures ∙ ap (λ (a : Args). treeLineOf (madeOf (treeKind 2) a)) (c .before .two-numbers2 .ensures)))
 
 slice-aggregate-has-3 : tie.Need-slice-aggregate-has-3
@@ -61,7 +71,9 @@ has-requires-3 : tie.Need-has-requires-3
 has-requires-3 c κs = search needs
 
 add-one-number : tie.Need-add-one-number
-add-one-number c = omega (arith, word-in (c .before .before .before .before .before .before .before .before .before .before .args .s .now) (c .before .before .before .before .before .before .before .before .before .before .args .at) (bytes "(idle") (omega arith) (sym (c .before .has3 .ensures) ∙ c .if3 .taken))
+add-one-number c =
+    let start = c .before .before .before .before .before .before .before .before .before .before in
+    omega (arith, word-in (start .args .s .now) (start .args .at) (bytes "(idle") (omega arith) (sym (c .before .has3 .ensures) ∙ c .if3 .taken))
 
 one-number-requires : tie.Need-one-number-requires
 one-number-requires c κs = search needs
@@ -72,8 +84,19 @@ tree-line-requires-3 c κs = search needs
 returns-3 : tie.Need-returns-3
 unfolding treeAt readBy
 returns-3 c =
-    tree-told (c .before .before .before .before .before .before .before .before .before .before .before .before .args .s .now) (c .before .before .before .before .before .before .before .before .before .before .before .before .args .at) (c .tree-line3 .result)
-    (rw (sym (c .before .before .before .before .before .before .before .before .before .has .ensures) ∙ c .before .before .before .before .before .before .before .before .if1 .left, sym (c .before .before .before .before .before .before .has2 .ensures) ∙ c .before .before .before .before .before .if2 .left, sym (c .before .before .before .has3 .ensures) ∙ c .before .before .if3 .taken)
+    let at-has3 = c .before .before .before in
+    let at-if2 = at-has3 .before .before in
+    let at-has2 = at-if2 .before in
+    let at-if1 = at-has2 .before .before in
+    let at-has = at-if1 .before in
+    let start = at-has .before .before .before in
+    tree-told (start .args .s .now) (start .args .at) (c .tree-line3 .result)
+    (rw (
+      sym (at-has .has .ensures) ∙ at-if1 .if1 .left,
+      sym (at-has2 .has2 .ensures) ∙ at-if2 .if2 .left,
+      sym (at-has3 .has3 .ensures)
+          ∙ c .before .before .if3 .taken,
+    )
     (c .tree-line3 .ensures ∙ ap (λ (a : Args). treeLineOf (madeOf (treeKind 3) a)) (c .before .one-number .ensures)))
 
 slice-aggregate-has-4 : tie.Need-slice-aggregate-has-4
@@ -83,7 +106,9 @@ has-requires-4 : tie.Need-has-requires-4
 has-requires-4 c κs = search needs
 
 add-one-number-2 : tie.Need-add-one-number-2
-add-one-number-2 c = omega (arith, word-in (c .before .before .before .before .before .before .before .before .before .before .before .before .before .args .s .now) (c .before .before .before .before .before .before .before .before .before .before .before .before .before .args .at) (bytes "(ack") (omega arith) (sym (c .before .has4 .ensures) ∙ c .if4 .taken))
+add-one-number-2 c =
+    let start = c .before .before .before .before .before .before .before .before .before .before .before .before .before in
+    omega (arith, word-in (start .args .s .now) (start .args .at) (bytes "(ack") (omega arith) (sym (c .before .has4 .ensures) ∙ c .if4 .taken))
 
 one-number-requires-2 : tie.Need-one-number-requires-2
 one-number-requires-2 c κs = search needs
@@ -94,8 +119,22 @@ tree-line-requires-4 c κs = search needs
 returns-4 : tie.Need-returns-4
 unfolding treeAt readBy
 returns-4 c =
-    tree-told (c .before .before .before .before .before .before .before .before .before .before .before .before .before .before .before .args .s .now) (c .before .before .before .before .before .before .before .before .before .before .before .before .before .before .before .args .at) (c .tree-line4 .result)
-    (rw (sym (c .before .before .before .before .before .before .before .before .before .before .before .before .has .ensures) ∙ c .before .before .before .before .before .before .before .before .before .before .before .if1 .left, sym (c .before .before .before .before .before .before .before .before .before .has2 .ensures) ∙ c .before .before .before .before .before .before .before .before .if2 .left, sym (c .before .before .before .before .before .before .has3 .ensures) ∙ c .before .before .before .before .before .if3 .left, sym (c .before .before .before .has4 .ensures) ∙ c .before .before .if4 .taken)
+    let at-has4 = c .before .before .before in
+    let at-if3 = at-has4 .before .before in
+    let at-has3 = at-if3 .before in
+    let at-if2 = at-has3 .before .before in
+    let at-has2 = at-if2 .before in
+    let at-if1 = at-has2 .before .before in
+    let at-has = at-if1 .before in
+    let start = at-has .before .before .before in
+    tree-told (start .args .s .now) (start .args .at) (c .tree-line4 .result)
+    (rw (
+      sym (at-has .has .ensures) ∙ at-if1 .if1 .left,
+      sym (at-has2 .has2 .ensures) ∙ at-if2 .if2 .left,
+      sym (at-has3 .has3 .ensures)
+          ∙ at-if3 .if3 .left,
+      sym (at-has4 .has4 .ensures) ∙ c .before .before .if4 .taken,
+    )
     (c .tree-line4 .ensures ∙ ap (λ (a : Args). treeLineOf (madeOf (treeKind 4) a)) (c .before .one-number2 .ensures)))
 
 slice-aggregate-has-5 : tie.Need-slice-aggregate-has-5
@@ -105,7 +144,9 @@ has-requires-5 : tie.Need-has-requires-5
 has-requires-5 c κs = search needs
 
 add-one-number-3 : tie.Need-add-one-number-3
-add-one-number-3 c = omega (arith, word-in (c .before .before .before .before .before .before .before .before .before .before .before .before .before .before .before .before .args .s .now) (c .before .before .before .before .before .before .before .before .before .before .before .before .before .before .before .before .args .at) (bytes "(leave") (omega arith) (sym (c .before .has5 .ensures) ∙ c .if5 .taken))
+add-one-number-3 c =
+    let start = c .before .before .before .before .before .before .before .before .before .before .before .before .before .before .before .before in
+    omega (arith, word-in (start .args .s .now) (start .args .at) (bytes "(leave") (omega arith) (sym (c .before .has5 .ensures) ∙ c .if5 .taken))
 
 one-number-requires-3 : tie.Need-one-number-requires-3
 one-number-requires-3 c κs = search needs
@@ -116,8 +157,25 @@ tree-line-requires-5 c κs = search needs
 returns-5 : tie.Need-returns-5
 unfolding treeAt readBy
 returns-5 c =
-    tree-told (c .before .before .before .before .before .before .before .before .before .before .before .before .before .before .before .before .before .before .args .s .now) (c .before .before .before .before .before .before .before .before .before .before .before .before .before .before .before .before .before .before .args .at) (c .tree-line5 .result)
-    (rw (sym (c .before .before .before .before .before .before .before .before .before .before .before .before .before .before .before .has .ensures) ∙ c .before .before .before .before .before .before .before .before .before .before .before .before .before .before .if1 .left, sym (c .before .before .before .before .before .before .before .before .before .before .before .before .has2 .ensures) ∙ c .before .before .before .before .before .before .before .before .before .before .before .if2 .left, sym (c .before .before .before .before .before .before .before .before .before .has3 .ensures) ∙ c .before .before .before .before .before .before .before .before .if3 .left, sym (c .before .before .before .before .before .before .has4 .ensures) ∙ c .before .before .before .before .before .if4 .left, sym (c .before .before .before .has5 .ensures) ∙ c .before .before .if5 .taken)
+    let at-has5 = c .before .before .before in
+    let at-if4 = at-has5 .before .before in
+    let at-has4 = at-if4 .before in
+    let at-if3 = at-has4 .before .before in
+    let at-has3 = at-if3 .before in
+    let at-if2 = at-has3 .before .before in
+    let at-has2 = at-if2 .before in
+    let at-if1 = at-has2 .before .before in
+    let at-has = at-if1 .before in
+    let start = at-has .before .before .before in
+    tree-told (start .args .s .now) (start .args .at) (c .tree-line5 .result)
+    (rw (
+      sym (at-has .has .ensures) ∙ at-if1 .if1 .left,
+      sym (at-has2 .has2 .ensures) ∙ at-if2 .if2 .left,
+      sym (at-has3 .has3 .ensures)
+          ∙ at-if3 .if3 .left,
+      sym (at-has4 .has4 .ensures) ∙ at-if4 .if4 .left,
+      sym (at-has5 .has5 .ensures) ∙ c .before .before .if5 .taken,
+    )
     (c .tree-line5 .ensures ∙ ap (λ (a : Args). treeLineOf (madeOf (treeKind 5) a)) (c .before .one-number3 .ensures)))
 
 slice-aggregate-has-6 : tie.Need-slice-aggregate-has-6
@@ -127,7 +185,9 @@ has-requires-6 : tie.Need-has-requires-6
 has-requires-6 c κs = search needs
 
 add-closed : tie.Need-add-closed
-add-closed c = omega (arith, word-in (c .before .before .before .before .before .before .before .before .before .before .before .before .before .before .before .before .before .before .before .args .s .now) (c .before .before .before .before .before .before .before .before .before .before .before .before .before .before .before .before .before .before .before .args .at) (bytes "(announce") (omega arith) (sym (c .before .has6 .ensures) ∙ c .if6 .taken))
+add-closed c =
+    let start = c .before .before .before .before .before .before .before .before .before .before .before .before .before .before .before .before .before .before .before in
+    omega (arith, word-in (start .args .s .now) (start .args .at) (bytes "(announce") (omega arith) (sym (c .before .has6 .ensures) ∙ c .if6 .taken))
 
 closed-requires : tie.Need-closed-requires
 closed-requires c κs = search needs
@@ -138,13 +198,56 @@ tree-line-requires-6 c κs = search needs
 returns-6 : tie.Need-returns-6
 unfolding treeAt readBy
 returns-6 c =
-    tree-told (c .before .before .before .before .before .before .before .before .before .before .before .before .before .before .before .before .before .before .before .before .before .args .s .now) (c .before .before .before .before .before .before .before .before .before .before .before .before .before .before .before .before .before .before .before .before .before .args .at) (c .tree-line6 .result)
-    (rw (sym (c .before .before .before .before .before .before .before .before .before .before .before .before .before .before .before .before .before .before .has .ensures) ∙ c .before .before .before .before .before .before .before .before .before .before .before .before .before .before .before .before .before .if1 .left, sym (c .before .before .before .before .before .before .before .before .before .before .before .before .before .before .before .has2 .ensures) ∙ c .before .before .before .before .before .before .before .before .before .before .before .before .before .before .if2 .left, sym (c .before .before .before .before .before .before .before .before .before .before .before .before .has3 .ensures) ∙ c .before .before .before .before .before .before .before .before .before .before .before .if3 .left, sym (c .before .before .before .before .before .before .before .before .before .has4 .ensures) ∙ c .before .before .before .before .before .before .before .before .if4 .left, sym (c .before .before .before .before .before .before .has5 .ensures) ∙ c .before .before .before .before .before .if5 .left, sym (c .before .before .before .has6 .ensures) ∙ c .before .before .if6 .taken)
+    let at-has6 = c .before .before .before in
+    let at-if5 = at-has6 .before .before in
+    let at-has5 = at-if5 .before in
+    let at-if4 = at-has5 .before .before in
+    let at-has4 = at-if4 .before in
+    let at-if3 = at-has4 .before .before in
+    let at-has3 = at-if3 .before in
+    let at-if2 = at-has3 .before .before in
+    let at-has2 = at-if2 .before in
+    let at-if1 = at-has2 .before .before in
+    let at-has = at-if1 .before in
+    let start = at-has .before .before .before in
+    tree-told (start .args .s .now) (start .args .at) (c .tree-line6 .result)
+    (rw (
+      sym (at-has .has .ensures) ∙ at-if1 .if1 .left,
+      sym (at-has2 .has2 .ensures) ∙ at-if2 .if2 .left,
+      sym (at-has3 .has3 .ensures)
+          ∙ at-if3 .if3 .left,
+      sym (at-has4 .has4 .ensures) ∙ at-if4 .if4 .left,
+      sym (at-has5 .has5 .ensures) ∙ at-if5 .if5 .left,
+      sym
+          (at-has6 .has6 .ensures) ∙ c .before .before .if6 .taken,
+    )
     (c .tree-line6 .ensures ∙ ap (λ (a : Args). treeLineOf (madeOf (treeKind 6) a)) (c .before .closed .ensures)))
 
 returns-7 : tie.Need-returns-7
 unfolding treeAt readBy
-returns-7 c = tree-told (c .before .before .before .before .before .before .before .before .before .before .before .before .before .before .before .before .before .before .before .args .s .now) (c .before .before .before .before .before .before .before .before .before .before .before .before .before .before .before .before .before .before .before .args .at) _ (rw (sym (c .before .before .before .before .before .before .before .before .before .before .before .before .before .before .before .before .has .ensures) ∙ c .before .before .before .before .before .before .before .before .before .before .before .before .before .before .before .if1 .left, sym (c .before .before .before .before .before .before .before .before .before .before .before .before .before .has2 .ensures) ∙ c .before .before .before .before .before .before .before .before .before .before .before .before .if2 .left, sym (c .before .before .before .before .before .before .before .before .before .before .has3 .ensures) ∙ c .before .before .before .before .before .before .before .before .before .if3 .left, sym (c .before .before .before .before .before .before .before .has4 .ensures) ∙ c .before .before .before .before .before .before .if4 .left, sym (c .before .before .before .before .has5 .ensures) ∙ c .before .before .before .if5 .left, sym (c .before .has6 .ensures) ∙ c .if6 .left))
+returns-7 c =
+    let at-if5 = c .before .before .before in
+    let at-has5 = at-if5 .before in
+    let at-if4 = at-has5 .before .before in
+    let at-has4 = at-if4 .before in
+    let at-if3 = at-has4 .before .before in
+    let at-has3 = at-if3 .before in
+    let at-if2 = at-has3 .before .before in
+    let at-has2 = at-if2 .before in
+    let at-if1 = at-has2 .before .before in
+    let at-has = at-if1 .before in
+    let start = at-has .before .before .before in
+    tree-told (start .args .s .now) (start .args .at) _
+    (rw (
+      sym (at-has .has .ensures) ∙ at-if1 .if1 .left,
+      sym (at-has2 .has2 .ensures) ∙ at-if2 .if2 .left,
+      sym (at-has3 .has3 .ensures)
+          ∙ at-if3 .if3 .left,
+      sym (at-has4 .has4 .ensures) ∙ at-if4 .if4 .left,
+      sym (at-has5 .has5 .ensures) ∙ at-if5 .if5 .left,
+      sym
+          (c .before .has6 .ensures) ∙ c .if6 .left,
+    ))
 
 pub tree-step-spec : {M : Type 1} → statement M
 tree-step-spec =

@@ -14,19 +14,29 @@ refused-requires : tie.Need-refused-requires
 refused-requires c κs = search needs
 
 returns : tie.Need-returns
-returns c = rw (c .refused .ensures .0, c .refused .ensures .1) (node-answer _ Send _ _ (c .before .before .before .pre) refl (left-true _ (le-leb _ _ (c .before .if1 .taken))))
+returns c =
+    let start = c .before .before .before in
+    rw (c .refused .ensures .0, c .refused .ensures .1) (node-answer _ Send _ _ (start .pre) refl (left-true _ (le-leb _ _ (c .before .if1 .taken))))
 
 refused-requires-2 : tie.Need-refused-requires-2
 refused-requires-2 c κs = search needs
 
 returns-2 : tie.Need-returns-2
-returns-2 c = rw (c .refused2 .ensures .0, c .refused2 .ensures .1) (node-answer _ Send _ _ (c .before .before .before .before .before .pre) refl (right-true (leb (c .before .before .before .before .before .args .r .n) (c .before .before .before .before .before .args .i)) (le-leb _ _ (c .before .if2 .taken))))
+returns-2 c =
+    let start = c .before .before .before .before .before in
+    rw (c .refused2 .ensures .0, c .refused2 .ensures .1)
+    (node-answer _ Send _ _ (start .pre) refl (right-true (leb (start .args .r .n) (start .args .i)) (le-leb _ _ (c .before .if2 .taken))))
 
 refused-requires-3 : tie.Need-refused-requires-3
 refused-requires-3 c κs = search needs
 
 returns-3 : tie.Need-returns-3
-returns-3 c = rw (c .refused3 .ensures .0, c .refused3 .ensures .1) (self-answer _ Send _ _ (c .before .before .before .before .before .before .pre) refl (rw (lt-leb _ _ (c .before .before .before .before .if1 .left), lt-leb _ _ (c .before .before .if2 .left))) (eq-eqb _ _ (c .before .if3 .taken)))
+returns-3 c =
+    let at-if1 = c .before .before .before .before in
+    let start = at-if1 .before .before in
+    rw (c .refused3 .ensures .0, c .refused3 .ensures .1)
+    (self-answer _ Send _ _ (start .pre) refl (rw (lt-leb _ _ (at-if1 .if1 .left), lt-leb _ _ (c .before .before .if2 .left)))
+    (eq-eqb _ _ (c .before .if3 .taken)))
 
 element-copy-out-if4 : tie.Need-element-copy-out-if4
 element-copy-out-if4 c = search needs
@@ -35,13 +45,28 @@ refused-requires-4 : tie.Need-refused-requires-4
 refused-requires-4 c κs = search needs
 
 returns-4 : tie.Need-returns-4
-returns-4 c = rw (c .refused4 .ensures .0, c .refused4 .ensures .1) (rule-answer _ Send _ _ (c .before .before .before .before .before .before .before .before .pre) refl (rw (lt-leb _ _ (c .before .before .before .before .before .before .if1 .left), lt-leb _ _ (c .before .before .before .before .if2 .left))) (ne-eqb _ _ (c .before .before .before .if3 .left)) (not-true _ (c .before .if4 .taken)))
+returns-4 c =
+    let at-if3 = c .before .before .before in
+    let at-if2 = at-if3 .before in
+    let at-if1 = at-if2 .before .before in
+    let start = at-if1 .before .before in
+    rw (c .refused4 .ensures .0, c .refused4 .ensures .1)
+    (rule-answer _ Send _ _ (start .pre) refl (rw (lt-leb _ _ (at-if1 .if1 .left), lt-leb _ _ (at-if2 .if2 .left))) (ne-eqb _ _ (at-if3 .if3 .left))
+    (not-true _ (c .before .if4 .taken)))
 
 refused-requires-5 : tie.Need-refused-requires-5
 refused-requires-5 c κs = search needs
 
 returns-5 : tie.Need-returns-5
-returns-5 c = rw (c .refused5 .ensures .0, c .refused5 .ensures .1) (limit-answer _ Send _ _ (c .before .before .before .before .before .before .before .before .before .before .pre) refl (rw (lt-leb _ _ (c .before .before .before .before .before .before .before .before .if1 .left), lt-leb _ _ (c .before .before .before .before .before .before .if2 .left))) (ne-eqb _ _ (c .before .before .before .before .before .if3 .left)) (not-false _ (c .before .before .before .if4 .left)) (le-leb _ _ (c .before .if5 .taken)))
+returns-5 c =
+    let at-if4 = c .before .before .before in
+    let at-if3 = at-if4 .before .before in
+    let at-if2 = at-if3 .before in
+    let at-if1 = at-if2 .before .before in
+    let start = at-if1 .before .before in
+    rw (c .refused5 .ensures .0, c .refused5 .ensures .1)
+    (limit-answer _ Send _ _ (start .pre) refl (rw (lt-leb _ _ (at-if1 .if1 .left), lt-leb _ _ (at-if2 .if2 .left))) (ne-eqb _ _ (at-if3 .if3 .left))
+    (not-false _ (at-if4 .if4 .left)) (le-leb _ _ (c .before .if5 .taken)))
 
 mul-unacked : tie.Need-mul-unacked
 mul-unacked c = search needs
@@ -50,7 +75,10 @@ element-copy-out-unacked : tie.Need-element-copy-out-unacked
 element-copy-out-unacked c = search needs
 
 add-unacked : tie.Need-add-unacked
-add-unacked c = record { fits = omega (arith, unacked-small _ (c .before .before .before .before .before .before .before .before .before .before .pre .sound) (c .before .before .before .before .before .before .before .before .before .before .args .i) (omega (arith, c .before .before .before .before .before .before .before .before .before .before .pre .sound .nodes, c .before .before .before .before .before .before .before .before .if1 .left))) }
+add-unacked c =
+    let at-if1 = c .before .before .before .before .before .before .before .before in
+    let start = at-if1 .before .before in
+    record { fits = omega (arith, unacked-small _ (start .pre .sound) (start .args .i) (omega (arith, start .pre .sound .nodes, at-if1 .if1 .left))) }
 
 element-write-unacked : tie.Need-element-write-unacked
 element-write-unacked c = search needs
@@ -68,7 +96,17 @@ element-copy-out-transit : tie.Need-element-copy-out-transit
 element-copy-out-transit c = search needs
 
 add-transit-2 : tie.Need-add-transit-2
-add-transit-2 c = record { fits = omega (arith, transit-small _ (c .before .before .before .before .before .before .before .before .before .before .before .pre .sound) (c .before .before .before .before .before .before .before .before .before .before .before .args .i) (c .before .before .before .before .before .before .before .before .before .before .before .args .j) (omega (arith, c .before .before .before .before .before .before .before .before .before .before .before .pre .sound .nodes, c .before .before .before .before .before .before .before .before .before .if1 .left)) (omega (arith, c .before .before .before .before .before .before .before .before .before .before .before .pre .sound .nodes, c .before .before .before .before .before .before .before .if2 .left))) }
+add-transit-2 c =
+    let at-if2 = c .before .before .before .before .before .before .before in
+    let at-if1 = at-if2 .before .before in
+    let start = at-if1 .before .before in
+    record {
+      fits = omega (
+        arith,
+        transit-small _ (start .pre .sound) (start .args .i) (start .args .j) (omega (arith, start .pre .sound .nodes, at-if1 .if1 .left))
+            (omega (arith, start .pre .sound .nodes, at-if2 .if2 .left)),
+      );
+    }
 
 element-write-transit : tie.Need-element-write-transit
 element-write-transit c = search needs
@@ -77,7 +115,15 @@ add-rest : tie.Need-add-rest
 add-rest c = search needs
 
 returns-6 : tie.Need-returns-6
-returns-6 c = accepted-answer _ Send _ _ (c .before .before .before .before .before .before .before .before .before .before .before .before .pre) refl (rw (lt-leb _ _ (c .before .before .before .before .before .before .before .before .before .before .if1 .left), lt-leb _ _ (c .before .before .before .before .before .before .before .before .if2 .left))) (ne-eqb _ _ (c .before .before .before .before .before .before .before .if3 .left)) (not-false _ (c .before .before .before .before .before .if4 .left)) (lt-leb _ _ (c .before .before .before .if5 .left))
+returns-6 c =
+    let at-if5 = c .before .before .before in
+    let at-if4 = at-if5 .before .before in
+    let at-if3 = at-if4 .before .before in
+    let at-if2 = at-if3 .before in
+    let at-if1 = at-if2 .before .before in
+    let start = at-if1 .before .before in
+    accepted-answer _ Send _ _ (start .pre) refl (rw (lt-leb _ _ (at-if1 .if1 .left), lt-leb _ _ (at-if2 .if2 .left)))
+    (ne-eqb _ _ (at-if3 .if3 .left)) (not-false _ (at-if4 .if4 .left)) (lt-leb _ _ (at-if5 .if5 .left))
 
 pub send-spec : {M : Type 1} → statement M
 send-spec =

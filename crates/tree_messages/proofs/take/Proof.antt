@@ -18,13 +18,18 @@ refused-requires : tie.Need-refused-requires
 refused-requires c κs = search needs
 
 returns : tie.Need-returns
-returns c = rw (c .refused .ensures .0, c .refused .ensures .1) (node-answer _ Take _ _ (c .before .before .before .pre) refl (left-true _ (le-leb _ _ (c .before .if1 .taken))))
+returns c =
+    let start = c .before .before .before in
+    rw (c .refused .ensures .0, c .refused .ensures .1) (node-answer _ Take _ _ (start .pre) refl (left-true _ (le-leb _ _ (c .before .if1 .taken))))
 
 refused-requires-2 : tie.Need-refused-requires-2
 refused-requires-2 c κs = search needs
 
 returns-2 : tie.Need-returns-2
-returns-2 c = rw (c .refused2 .ensures .0, c .refused2 .ensures .1) (node-answer _ Take _ _ (c .before .before .before .before .before .pre) refl (right-true (leb (c .before .before .before .before .before .args .r .n) (c .before .before .before .before .before .args .i)) (le-leb _ _ (c .before .if2 .taken))))
+returns-2 c =
+    let start = c .before .before .before .before .before in
+    rw (c .refused2 .ensures .0, c .refused2 .ensures .1)
+    (node-answer _ Take _ _ (start .pre) refl (right-true (leb (start .args .r .n) (start .args .i)) (le-leb _ _ (c .before .if2 .taken))))
 
 mul-if3 : tie.Need-mul-if3
 mul-if3 c = search needs
@@ -42,7 +47,13 @@ refused-requires-3 : tie.Need-refused-requires-3
 refused-requires-3 c κs = search needs
 
 returns-3 : tie.Need-returns-3
-returns-3 c = rw (c .refused3 .ensures .0, c .refused3 .ensures .1) (rule-answer _ Take _ _ (c .before .before .before .before .before .before .before .pre) refl (rw (lt-leb _ _ (c .before .before .before .before .before .if1 .left), lt-leb _ _ (c .before .before .before .if2 .left))) refl (le-ltb 0 (getD (c .before .before .before .before .before .before .before .args .transit .now) (c .before .before .before .before .before .before .before .args .k * 16 + c .before .before .before .before .before .before .before .args .i) 0) (omega arith)))
+returns-3 c =
+    let at-if2 = c .before .before .before in
+    let at-if1 = at-if2 .before .before in
+    let start = at-if1 .before .before in
+    rw (c .refused3 .ensures .0, c .refused3 .ensures .1)
+    (rule-answer _ Take _ _ (start .pre) refl (rw (lt-leb _ _ (at-if1 .if1 .left), lt-leb _ _ (at-if2 .if2 .left))) refl
+    (le-ltb 0 (getD (start .args .transit .now) (start .args .k * 16 + start .args .i) 0) (omega arith)))
 
 mul-transit : tie.Need-mul-transit
 mul-transit c = search needs
@@ -75,7 +86,17 @@ element-write-engager : tie.Need-element-write-engager
 element-write-engager c = search needs
 
 returns-4 : tie.Need-returns-4
-returns-4 c = ap acceptedAs (take-engages (whole (c .before .before .before .before .before .before .before .before .before .before .args .r) (c .before .before .before .before .before .before .before .before .before .before .args .active .now) (c .before .before .before .before .before .before .before .before .before .before .args .engager .now) (c .before .before .before .before .before .before .before .before .before .before .args .unacked .now) (c .before .before .before .before .before .before .before .before .before .before .args .transit .now) (c .before .before .before .before .before .before .before .before .before .before .args .acks .now)) (c .before .before .before .before .before .before .before .before .before .before .args .i) (c .before .before .before .before .before .before .before .before .before .before .args .k) (sym (c .before .engager-of .ensures .0) ∙ c .if4 .taken)) ∙ accepted-answer _ Take _ _ (c .before .before .before .before .before .before .before .before .before .before .pre) refl (rw (lt-leb _ _ (c .before .before .before .before .before .before .before .before .if1 .left), lt-leb _ _ (c .before .before .before .before .before .before .if2 .left))) refl (lt-ltb 0 (getD (c .before .before .before .before .before .before .before .before .before .before .args .transit .now) (c .before .before .before .before .before .before .before .before .before .before .args .k * 16 + c .before .before .before .before .before .before .before .before .before .before .args .i) 0) (omega arith)) refl
+returns-4 c =
+    let at-if2 = c .before .before .before .before .before .before in
+    let at-if1 = at-if2 .before .before in
+    let start = at-if1 .before .before in
+    ap acceptedAs
+    (take-engages
+    (whole (start .args .r) (start .args .active .now) (start .args .engager .now) (start .args .unacked .now) (start .args .transit .now)
+    (start .args .acks .now))
+    (start .args .i) (start .args .k) (sym (c .before .engager-of .ensures .0) ∙ c .if4 .taken))
+    ∙ accepted-answer _ Take _ _ (start .pre) refl (rw (lt-leb _ _ (at-if1 .if1 .left), lt-leb _ _ (at-if2 .if2 .left))) refl
+    (lt-ltb 0 (getD (start .args .transit .now) (start .args .k * 16 + start .args .i) 0) (omega arith)) refl
 
 mul-acks : tie.Need-mul-acks
 mul-acks c = search needs
@@ -84,13 +105,27 @@ element-copy-out-acks : tie.Need-element-copy-out-acks
 element-copy-out-acks c = search needs
 
 add-acks : tie.Need-add-acks
-add-acks c = record { fits = omega (arith, acks-small _ (c .before .before .before .before .before .before .before .before .before .before .before .pre .sound) (c .before .before .before .before .before .before .before .before .before .before .before .args .k) (omega (arith, c .before .before .before .before .before .before .before .before .before .before .before .pre .sound .nodes, c .before .before .before .before .before .before .before .if2 .left))) }
+add-acks c =
+    let at-if2 = c .before .before .before .before .before .before .before in
+    let start = at-if2 .before .before .before .before in
+    record { fits = omega (arith, acks-small _ (start .pre .sound) (start .args .k) (omega (arith, start .pre .sound .nodes, at-if2 .if2 .left))) }
 
 element-write-acks : tie.Need-element-write-acks
 element-write-acks c = search needs
 
 returns-5 : tie.Need-returns-5
-returns-5 c = ap acceptedAs (take-replies (whole (c .before .before .before .before .before .before .before .before .before .before .before .args .r) (c .before .before .before .before .before .before .before .before .before .before .before .args .active .now) (c .before .before .before .before .before .before .before .before .before .before .before .args .engager .now) (c .before .before .before .before .before .before .before .before .before .before .before .args .unacked .now) (c .before .before .before .before .before .before .before .before .before .before .before .args .transit .now) (c .before .before .before .before .before .before .before .before .before .before .before .args .acks .now)) (c .before .before .before .before .before .before .before .before .before .before .before .args .i) (c .before .before .before .before .before .before .before .before .before .before .before .args .k) (λ e. c .before .if4 .left (c .before .before .engager-of .ensures .0 ∙ e))) ∙ accepted-answer _ Take _ _ (c .before .before .before .before .before .before .before .before .before .before .before .pre) refl (rw (lt-leb _ _ (c .before .before .before .before .before .before .before .before .before .if1 .left), lt-leb _ _ (c .before .before .before .before .before .before .before .if2 .left))) refl (lt-ltb 0 (getD (c .before .before .before .before .before .before .before .before .before .before .before .args .transit .now) (c .before .before .before .before .before .before .before .before .before .before .before .args .k * 16 + c .before .before .before .before .before .before .before .before .before .before .before .args .i) 0) (omega arith)) refl
+returns-5 c =
+    let at-if3 = c .before .before .before .before .before in
+    let at-if2 = at-if3 .before .before in
+    let at-if1 = at-if2 .before .before in
+    let start = at-if1 .before .before in
+    ap acceptedAs
+    (take-replies
+    (whole (start .args .r) (start .args .active .now) (start .args .engager .now) (start .args .unacked .now) (start .args .transit .now)
+    (start .args .acks .now))
+    (start .args .i) (start .args .k) (λ e. c .before .if4 .left (c .before .before .engager-of .ensures .0 ∙ e)))
+    ∙ accepted-answer _ Take _ _ (start .pre) refl (rw (lt-leb _ _ (at-if1 .if1 .left), lt-leb _ _ (at-if2 .if2 .left))) refl
+    (lt-ltb 0 (getD (start .args .transit .now) (start .args .k * 16 + start .args .i) 0) (omega (arith, at-if3 .if3 .left))) refl
 
 pub take-spec : {M : Type 1} → statement M
 take-spec =

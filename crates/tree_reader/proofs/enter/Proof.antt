@@ -25,7 +25,8 @@ returns c =
 
 returns-2 : tie.Need-returns-2
 returns-2 c =
-    let a = c .before .before .before .args in
+    let start = c .before .before .before in
+    let a = start .args in
     c .refuse .ensures ∙ (sym (enter-wrong (a .n) (a .r) (a .by) (a .low)) ∙ ap (entered (a .n) (a .r) (a .by) (a .low)) (sym (c .before .enum-told .given .1)))
 
 pub enter-spec : {M : Type 1} → statement M

@@ -172,7 +172,13 @@ write-node-slice-write-buf-2 t c =
     let s = c .before .before .before .before .before .before .before .before in
     let a = s .before .before .args in
     let text = node-more (a .left) (a .e .now) (a .k) (s .if1 .left) in
-    omega (arith, length-set (a .buf .now) (a .at) 40, c .before .before .before .before .before .before .put-decimal .kept .0, c .before .before .write-list .kept .0, simp length-append at (ap length text))
+    omega (
+      arith,
+      length-set (a .buf .now) (a .at) 40,
+      c .before .before .before .before .before .before .put-decimal .kept .0,
+      c .before .before .write-list .kept .0,
+      simp length-append at (ap length text),
+    )
 
 write-node-add-result : (t : ℕ) → write-node-lts.Need-add-result (node-calls t) (write-node-at t) write-node.Post
 write-node-add-result t c =

@@ -32,9 +32,12 @@ text-length-requires c κs = search needs
 
 returns-2 : tie.Need-returns-2
 returns-2 c =
-    let a = c .before .before .before .before .before .before .before .args in
+    let at-if1 = c .before .before .before .before in
+    let at-is-sound = at-if1 .before in
+    let start = at-is-sound .before .before in
+    let a = start .args in
     let t = state (a .tree) in
-    let h : soundTest t ≡ true = sym (c .before .before .before .before .before .is-sound .ensures) ∙ not-false _ (c .before .before .before .before .if1 .left) in
+    let h : soundTest t ≡ true = sym (at-is-sound .is-sound .ensures) ∙ not-false _ (at-if1 .if1 .left) in
     let l = tree-length (t .n) (t .engager) (t .root) (sound-tree t (sound-true t h)) in
     let v = short t (a .buf .now) h (omega (arith, l, c .before .text-length .ensures, c .if2 .taken)) in
     (sym (told-no t (a .buf .now) ShortBuffer v), sym (left-no t (a .buf .now) ShortBuffer v))

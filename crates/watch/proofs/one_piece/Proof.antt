@@ -31,7 +31,9 @@ slice-reshare-prefix-write-all : tie.Need-slice-reshare-prefix-write-all
 slice-reshare-prefix-write-all c = search needs
 
 slice-aggregate-write-all : tie.Need-slice-aggregate-write-all
-slice-aggregate-write-all c = sym (length-take-le _ _ (omega (arith, c .before .before .before .before .before .before .feed .ensures .room, c .before .before .before .before .before .before .feed .kept)))
+slice-aggregate-write-all c =
+    let at-feed = c .before .before .before .before .before .before in
+    sym (length-take-le _ _ (omega (arith, at-feed .feed .ensures .room, at-feed .feed .kept)))
 
 write-all-requires : tie.Need-write-all-requires
 write-all-requires c κs = search needs
@@ -46,7 +48,10 @@ same-length-4 : tie.Need-same-length-4
 same-length-4 c = search needs
 
 returns-2 : tie.Need-returns-2
-returns-2 c = (c .before .before .before .before .before .before .before .before .feed .ensures .good, fed _ (c .before .before .before .before .before .before .before .before .before .before .before .before .count .ensures .0 .0) (c .before .before .before .before .before .before .before .before .feed .ensures))
+returns-2 c =
+    let at-feed = c .before .before .before .before .before .before .before .before in
+    let at-count = at-feed .before .before .before .before in
+    (at-feed .feed .ensures .good, fed _ (at-count .count .ensures .0 .0) (at-feed .feed .ensures))
 
 pub one-piece-spec : {M : Type 1} → statement M
 one-piece-spec =

@@ -15,16 +15,28 @@ loop-holds : tie.Need-loop-holds Inv-loop μ-loop
 loop-holds c = (refl, refl, refl, c .before .before .before .pre .0)
 
 one-piece-requires : tie.Need-one-piece-requires Inv-loop μ-loop
-one-piece-requires c κs = (c .before .before .before .before .loop .inv .3, omega (arith, c .before .before .before .before .loop .inv .0, c .before .before .before .before .loop .inv .1, c .before .before .before .before .before .before .before .before .pre .1))
+one-piece-requires c κs =
+    let at-loop = c .before .before .before .before in
+    let start = at-loop .before .before .before .before in
+    (at-loop .loop .inv .3, omega (arith, at-loop .loop .inv .0, at-loop .loop .inv .1, start .pre .1))
 
 same-length : tie.Need-same-length Inv-loop μ-loop
-same-length c = omega (arith, c .before .before .before .before .before .before .before .before .before .before .before .before .before .loop .inv .0, c .before .before .before .before .before .before .before .before .one-piece .kept)
+same-length c =
+    let at-one-piece = c .before .before .before .before .before .before .before .before in
+    let at-loop = at-one-piece .before .before .before .before .before in
+    omega (arith, at-loop .loop .inv .0, at-one-piece .one-piece .kept)
 
 same-length-2 : tie.Need-same-length-2 Inv-loop μ-loop
-same-length-2 c = omega (arith, c .before .before .before .before .before .before .before .before .before .before .before .before .before .loop .inv .2, c .before .before .before .before .before .before .before .before .one-piece .kept)
+same-length-2 c =
+    let at-one-piece = c .before .before .before .before .before .before .before .before in
+    let at-loop = at-one-piece .before .before .before .before .before in
+    omega (arith, at-loop .loop .inv .2, at-one-piece .one-piece .kept)
 
 same-length-3 : tie.Need-same-length-3 Inv-loop μ-loop
-same-length-3 c = omega (arith, c .before .before .before .before .before .before .before .before .before .before .before .before .before .loop .inv .1, c .before .before .before .before .before .before .before .before .one-piece .kept)
+same-length-3 c =
+    let at-one-piece = c .before .before .before .before .before .before .before .before in
+    let at-loop = at-one-piece .before .before .before .before .before in
+    omega (arith, at-loop .loop .inv .1, at-one-piece .one-piece .kept)
 
 returns : tie.Need-returns Inv-loop μ-loop
 returns c = c .before .before .before .before .before .before .before .before .one-piece .ensures .0
@@ -36,7 +48,15 @@ loop-less : tie.Need-loop-less Inv-loop μ-loop
 loop-less c = omega arith
 
 loop-again : tie.Need-loop-again Inv-loop μ-loop
-loop-again c = (omega (arith, c .before .before .before .before .before .before .before .before .before .before .before .before .before .before .loop .inv .0, c .before .before .before .before .before .before .before .before .before .one-piece .kept), omega (arith, c .before .before .before .before .before .before .before .before .before .before .before .before .before .before .loop .inv .1, c .before .before .before .before .before .before .before .before .before .one-piece .kept), omega (arith, c .before .before .before .before .before .before .before .before .before .before .before .before .before .before .loop .inv .2, c .before .before .before .before .before .before .before .before .before .one-piece .kept), c .before .before .before .before .before .before .before .before .before .one-piece .ensures .0)
+loop-again c =
+    let at-one-piece = c .before .before .before .before .before .before .before .before .before in
+    let at-loop = at-one-piece .before .before .before .before .before in (
+      omega (arith, at-loop .loop .inv .0, at-one-piece .one-piece .kept),
+      omega (arith, at-loop .loop .inv .1, at-one-piece .one-piece .kept),
+      omega
+          (arith, at-loop .loop .inv .2, at-one-piece .one-piece .kept),
+      at-one-piece .one-piece .ensures .0,
+    )
 
 same-length-4 : tie.Need-same-length-4 Inv-loop μ-loop
 same-length-4 c = c .before .loop .inv .0

@@ -20,22 +20,57 @@ returns-2 : tie.Need-returns-2
 returns-2 c = sym (drive-closed _ _ (sound-true _ (told-true (c .before .before .is-sound .ensures) (c .before .if1 .left))) (c .if2 .taken))
 
 returns-3 : tie.Need-returns-3
-returns-3 c = let o : Open (state (c .before .before .before .before .args .self)) = record { sound = sound-true _ (told-true (c .before .before .before .is-sound .ensures) (c .before .before .if1 .left)); running = c .before .if2 .left } in
+returns-3 c =
+    let at-is-sound = c .before .before .before in
+    let start = at-is-sound .before in
+    let o : Open
+    (state (start .args .self)) = record {
+      sound = sound-true _
+          (told-true (at-is-sound .is-sound .ensures) (c .before .before .if1 .left));
+      running = c .before .if2 .left;
+    } in
     sym (drive-over _ _ o (c .if3 .taken))
 
 rest-of-requires : tie.Need-rest-of-requires
 rest-of-requires c κs = search needs
 
 drive-requires : tie.Need-drive-requires
-drive-requires c κs = let o : Open (state (c .before .before .before .before .before .before .before .before .before .before .before .before .before .before .before .args .self)) = record { sound = sound-true _ (told-true (c .before .before .before .before .before .before .before .before .before .before .before .before .before .before .is-sound .ensures) (c .before .before .before .before .before .before .before .before .before .before .before .before .before .if1 .left)); running = c .before .before .before .before .before .before .before .before .before .before .before .before .if2 .left } in
-    (subst Open (sym (c .before .before .before .before .before .before .before .before .before .before .rest-of .ensures)) o, c .before .before .before .before .before .before .before .before .before .before .before .if3 .left)
+drive-requires c κs =
+    let at-rest-of = c .before .before .before .before .before .before .before .before .before .before in
+    let at-if3 = at-rest-of .before in
+    let at-if2 = at-if3 .before in
+    let at-if1 = at-if2 .before in
+    let at-is-sound = at-if1 .before in
+    let start = at-is-sound .before in
+    let o : Open
+    (state (start .args .self)) = record {
+      sound = sound-true _
+          (told-true (at-is-sound .is-sound .ensures) (at-if1 .if1 .left));
+      running = at-if2 .if2 .left;
+    } in
+    (subst Open (sym (at-rest-of .rest-of .ensures)) o, at-if3 .if3 .left)
 
 gathered-requires : tie.Need-gathered-requires
 gathered-requires c κs = search needs
 
 returns-4 : tie.Need-returns-4
-returns-4 c = let o : Open (state (c .before .before .before .before .before .before .before .before .before .before .before .before .before .before .before .before .before .before .args .self)) = record { sound = sound-true _ (told-true (c .before .before .before .before .before .before .before .before .before .before .before .before .before .before .before .before .before .is-sound .ensures) (c .before .before .before .before .before .before .before .before .before .before .before .before .before .before .before .before .if1 .left)); running = c .before .before .before .before .before .before .before .before .before .before .before .before .before .before .before .if2 .left } in
-    ap (λ (s : State). record { reason = c .before .before .drive .result .reason; moves = c .before .before .drive .result .moves; state = s }) (c .gathered .ensures) ∙ (c .before .before .drive .ensures ∙ (ap (driveFrom (c .before .before .before .before .before .before .before .before .before .before .before .before .before .before .before .before .before .before .args .limit) 0) (c .before .before .before .before .before .before .before .before .before .before .before .before .before .rest-of .ensures) ∙ sym (drive-accepted _ (c .before .before .before .before .before .before .before .before .before .before .before .before .before .before .before .before .before .before .args .limit) o (c .before .before .before .before .before .before .before .before .before .before .before .before .before .before .if3 .left))))
+returns-4 c =
+    let at-rest-of = c .before .before .before .before .before .before .before .before .before .before .before .before .before in
+    let at-if3 = at-rest-of .before in
+    let at-if2 = at-if3 .before in
+    let at-if1 = at-if2 .before in
+    let at-is-sound = at-if1 .before in
+    let start = at-is-sound .before in
+    let o : Open
+    (state (start .args .self)) = record {
+      sound = sound-true _
+          (told-true (at-is-sound .is-sound .ensures) (at-if1 .if1 .left));
+      running = at-if2 .if2 .left;
+    } in
+    ap (λ (s : State). record { reason = c .before .before .drive .result .reason; moves = c .before .before .drive .result .moves; state = s })
+    (c .gathered .ensures) ∙
+    (c .before .before .drive .ensures ∙
+    (ap (driveFrom (start .args .limit) 0) (at-rest-of .rest-of .ensures) ∙ sym (drive-accepted _ (start .args .limit) o (at-if3 .if3 .left))))
 
 pub drive-spec : {M : Type 1} → statement M
 drive-spec =

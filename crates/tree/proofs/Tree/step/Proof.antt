@@ -20,13 +20,22 @@ rest-of-requires : tie.Need-rest-of-requires
 rest-of-requires c κs = search needs
 
 step-requires : tie.Need-step-requires
-step-requires c κs = subst Sound (sym (c .before .before .before .before .before .before .before .before .before .before .rest-of .ensures)) (sound-true _ (sym (c .before .before .before .before .before .before .before .before .before .before .before .before .is-sound .ensures) ∙ not-false _ (c .before .before .before .before .before .before .before .before .before .before .before .if1 .left)))
+step-requires c κs =
+    let at-rest-of = c .before .before .before .before .before .before .before .before .before .before in
+    let at-if1 = at-rest-of .before in
+    let at-is-sound = at-if1 .before in
+    subst Sound (sym (at-rest-of .rest-of .ensures)) (sound-true _ (sym (at-is-sound .is-sound .ensures) ∙ not-false _ (at-if1 .if1 .left)))
 
 gathered-requires : tie.Need-gathered-requires
 gathered-requires c κs = search needs
 
 returns-2 : tie.Need-returns-2
-returns-2 c = ap (λ (s : State). record { verdict = c .before .before .step .result .verdict; state = s }) (c .gathered .ensures) ∙ (c .before .before .step .ensures ∙ ap (λ (s : State). stepOf s (c .before .before .before .before .before .before .before .before .before .before .before .before .before .before .before .before .args .kind) (c .before .before .before .before .before .before .before .before .before .before .before .before .before .before .before .before .args .i) (c .before .before .before .before .before .before .before .before .before .before .before .before .before .before .before .before .args .j)) (c .before .before .before .before .before .before .before .before .before .before .before .before .before .rest-of .ensures))
+returns-2 c =
+    let at-rest-of = c .before .before .before .before .before .before .before .before .before .before .before .before .before in
+    let start = at-rest-of .before .before .before in
+    ap (λ (s : State). record { verdict = c .before .before .step .result .verdict; state = s }) (c .gathered .ensures) ∙
+    (c .before .before .step .ensures ∙ ap (λ (s : State). stepOf s (start .args .kind) (start .args .i) (start .args .j))
+    (at-rest-of .rest-of .ensures))
 
 pub step-spec : {M : Type 1} → statement M
 step-spec =
