@@ -74,5 +74,10 @@ pub sum-lowered :
     (n : ℕ) (l : List ℕ) (p : ℕ) → p < length l → p < n → 0 < getD l p 0
     → sumTo n (λ q. getD (set l p (getD l p 0 - 1)) q 0) + 1 ≡ sumTo n (λ q. getD l q 0)
 sum-lowered n l p h k has =
-    omega
-    (arith, sum-same n (λ q. getD (set l p (getD l p 0 - 1)) q 0 + ind q p) (λ q. getD l q 0) (λ q _. lowered-at l p q h has), sum-add n (λ q. getD (set l p (getD l p 0 - 1)) q 0) (λ q. ind q p), sum-ind n p k)
+    omega (
+      arith,
+      sum-same n (λ q. getD (set l p (getD l p 0 - 1)) q 0 + ind q p) (λ q. getD l q 0) (λ q _. lowered-at l p q h has),
+      sum-add n
+          (λ q. getD (set l p (getD l p 0 - 1)) q 0) (λ q. ind q p),
+      sum-ind n p k,
+    )

@@ -129,7 +129,9 @@ module _ (f : First) {a : treeAnswers.Answer} (s : a ≡ treeStart.startOf (f .n
         short = answer-short 1 Accepted (omega arith);
       })
 
-  pub no-tree : {e : Refusal} {o : Opening} {out out′ : List ℕ} → a .verdict ≡ Refused e → Begins (rules.opened (Refused e) (rules.onTree (treeStart.firstState (f .n) (f .root)))) o out out′
+  pub no-tree :
+      {e : Refusal} {o : Opening} {out out′ : List ℕ} → a .verdict ≡ Refused e
+      → Begins (rules.opened (Refused e) (rules.onTree (treeStart.firstState (f .n) (f .root)))) o out out′
       → Begins (rules.firstTold line.Tree f) o out out′
   no-tree v b = rw (sym verdict-is ∙ v) b
 

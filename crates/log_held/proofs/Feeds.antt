@@ -143,7 +143,8 @@ went-held s f {k} {len} {n} {line} small w no-more going = record {
   going = going;
 }
 
-pub over-held : (l : Log) (f : Fed) {k len : ℕ} {line out : List ℕ} → stageOf l ≡ rules.over → stageOf (f .log) ≡ rules.over → f .log .lines ≡ k → f .log .len ≡ 0
+pub over-held :
+    (l : Log) (f : Fed) {k len : ℕ} {line out : List ℕ} → stageOf l ≡ rules.over → stageOf (f .log) ≡ rules.over → f .log .lines ≡ k → f .log .len ≡ 0
     → f .count ≡ 0 → k ≤ lineLimit → HeldTold (stageOf l) k len line f out out
 unfolding put
 over-held l f {k} e e′ lines unheld count most = record {
@@ -168,7 +169,9 @@ pub full-fed : (l : Log) (piece line out : List ℕ) → lineLimit ≤ l .lines 
 unfolding put
 full-fed l piece line out h g = record {
   written = [];
-  left = λ rest. rest-full (stageOf l) (l .lines) h (heldOf line (l .len)) (piece ++ rest) ∙ sym (rest-full (stageOf l) (l .lines) h (heldOf line (l .len)) rest);
+  left =
+      λ rest. rest-full (stageOf l) (l .lines) h (heldOf line (l .len)) (piece ++ rest) ∙ sym
+      (rest-full (stageOf l) (l .lines) h (heldOf line (l .len)) rest);
   wrote = (refl, refl);
   room = omega arith;
   good = g;

@@ -105,11 +105,15 @@ formless-answered r t s s′ end out out′ sound few same moves lines past wrot
     }
 
 -- some lines, and then more
-pub run-then : {r t u : RingRun} {a b c : rules.State} {piece o p q : List ℕ} → RingWent r t a b piece o p → RingWent t u b c piece p q → RingWent r u a c piece o q
+pub run-then :
+    {r t u : RingRun} {a b c : rules.State} {piece o p q : List ℕ} → RingWent r t a b piece o p → RingWent t u b c piece p q
+    → RingWent r u a c piece o q
 run-then f g = record { went = went-then (f .went) (g .went); sound = g .sound; few = g .few }
 
 -- what is left fits as before
-pub run-fits : {r t : RingRun} {a b : rules.State} {piece o p : List ℕ} → Inside r a piece o → RingWent r t a b piece o p → length p ≡ length o → Inside t b piece p
+pub run-fits :
+    {r t : RingRun} {a b : rules.State} {piece o p : List ℕ} → Inside r a piece o → RingWent r t a b piece o p → length p ≡ length o
+    → Inside t b piece p
 run-fits f g n = record {
   sound = g .sound;
   few = g .few;

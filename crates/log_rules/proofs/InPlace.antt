@@ -59,10 +59,12 @@ says-ended s at f e h = (
   h .1 ∙ ap (λ (l : List ℕ). at + length l) (sym (h .0 .0)),
 )
 
-pub ring-ended : (s : List ℕ) (at : ℕ) (f : RingStep) (e : ℕ) → ringAt s at ≡ ringLine.Step f e → OneLine (line (drop at s)) × (e ≡ at + length (line (drop at s)))
+pub ring-ended :
+    (s : List ℕ) (at : ℕ) (f : RingStep) (e : ℕ) → ringAt s at ≡ ringLine.Step f e → OneLine (line (drop at s)) × (e ≡ at + length (line (drop at s)))
 ring-ended s at f e p = says-ended s at (ringForm f) e (ring-exact s at f e .0 p)
 
-pub tree-ended : (s : List ℕ) (at : ℕ) (f : TreeStep) (e : ℕ) → treeAt s at ≡ treeLine.Step f e → OneLine (line (drop at s)) × (e ≡ at + length (line (drop at s)))
+pub tree-ended :
+    (s : List ℕ) (at : ℕ) (f : TreeStep) (e : ℕ) → treeAt s at ≡ treeLine.Step f e → OneLine (line (drop at s)) × (e ≡ at + length (line (drop at s)))
 tree-ended s at f e p = says-ended s at (treeForm f) e (tree-exact s at f e .0 p)
 
 -- ---- lines of a piece

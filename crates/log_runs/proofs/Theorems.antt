@@ -70,7 +70,9 @@ ok-accepted k (Refused e) p = absurd (not-ok k e p)
 output :
     (s : Stage) (k : ℕ) (ls : List (List ℕ)) (l : List ℕ) (rest : List (List ℕ))
     → linesTold s k (ls ++ (l ∷ rest))
-    ≡ printed s k ls ++ (lineTold (stageAfter s k ls) (k + length ls) l .text ++ linesTold (lineTold (stageAfter s k ls) (k + length ls) l .stage) (k + length ls + 1) rest)
+    ≡ printed s k ls ++
+    (lineTold (stageAfter s k ls) (k + length ls) l .text ++ linesTold (lineTold (stageAfter s k ls) (k + length ls) l .stage)
+    (k + length ls + 1) rest)
 unfolding linesTold printed stageAfter
 output s k [] l rest = rw (add-zero k)
 output s k (x ∷ ls) l rest =
@@ -213,15 +215,19 @@ ring-countdown r running {ls} {xs} c quiet not-yet =
       exactly = λ m k j {ls′} {ys} c′ u l q.
           let there = ap (λ (s : Stage). stageAfter s (k + length ls) ls′) (ring-state r m k c) ∙ ring-state _ _ (k + length ls) c′ in
           let exactly = d .counted ys u .exactly (ringRequest ringStep.Announce) refl in
-          let answer = ring-announce (runOf ringCounts.ring (runOf ringCounts.ring r xs) ys) _ j l q in
-          (λ ok. exactly .0 (answer .0 (subst (λ (s : Stage). Ok s j l) there ok)), λ n. subst (λ (s : Stage). Ok s j l) (sym there) (answer .1 (exactly .1 n)));
+          let answer = ring-announce (runOf ringCounts.ring (runOf ringCounts.ring r xs) ys) _ j l q in (
+            λ ok. exactly .0 (answer .0 (subst (λ (s : Stage). Ok s j l) there ok)),
+            λ n. subst (λ (s : Stage). Ok s j l) (sym there)
+                (answer .1 (exactly .1 n)),
+          );
     }
 
 tree-countdown :
     (t : treeState.State) → treeSound.Open t → {ls : List (List ℕ)} {xs : List Request} → TreeSays ls xs → treeCounts.QuietBy t xs
     → treeCounts.Unannounced t xs → (k j : ℕ) {ls′ : List (List ℕ)} {ys : List Request} → TreeSays ls′ ys
     → treeCounts.Unannounced (runOf treeCounts.tree t xs) ys → (l : List ℕ) → Says l announce
-    → Ok (stageAfter (stageAfter (onTree t) k ls) (k + length ls) ls′) j l ↔ (length (acceptedOf treeCounts.tree (runOf treeCounts.tree t xs) ys) ≡ stepsBy t xs)
+    → Ok (stageAfter (stageAfter (onTree t) k ls) (k + length ls) ls′) j l ↔
+    (length (acceptedOf treeCounts.tree (runOf treeCounts.tree t xs) ys) ≡ stepsBy t xs)
 tree-countdown t running {ls} {xs} c quiet not-yet k j {ls′} {ys} c′ u l q =
     let there = ap (λ (s : Stage). stageAfter s (k + length ls) ls′) (tree-state t k c) ∙ tree-state _ (k + length ls) c′ in
     let exactly = treeRuns.whole-runs .point t running xs .countdown quiet not-yet ys u .exactly (treeRequest treeStep.Announce) refl in
@@ -244,7 +250,9 @@ ring-last r running m k j {xs = xs} c a l ok =
         (x : RingLine)
         → ringTold (runOf ringCounts.ring r xs) (m + movesIn (acceptedOf ringCounts.ring r xs)) j x .text ≡ answerText j Accepted → ⊥
     go (ringLine.Step f e) p =
-        none-taken (ringCounts.ring .verdict (runOf ringCounts.ring r xs) (ringRequest f)) (ringRequest f) (ringRuns.whole-runs .point r running xs .last a (ringRequest f ∷ [])) (ok-accepted j (ringCounts.ring .verdict (runOf ringCounts.ring r xs) (ringRequest f)) p)
+        none-taken (ringCounts.ring .verdict (runOf ringCounts.ring r xs) (ringRequest f)) (ringRequest f)
+        (ringRuns.whole-runs .point r running xs .last a (ringRequest f ∷ []))
+        (ok-accepted j (ringCounts.ring .verdict (runOf ringCounts.ring r xs) (ringRequest f)) p)
     go ringLine.NotAForm p = not-ok j NotAForm p
 
 tree-last :
@@ -256,7 +264,9 @@ tree-last t running k j {xs = xs} c a l ok =
   where
     go : (x : TreeLine) → treeTold (runOf treeCounts.tree t xs) j x .text ≡ answerText j Accepted → ⊥
     go (treeLine.Step f e) p =
-        none-taken (treeCounts.tree .verdict (runOf treeCounts.tree t xs) (treeRequest f)) (treeRequest f) (treeRuns.whole-runs .point t running xs .last a (treeRequest f ∷ [])) (ok-accepted j (treeCounts.tree .verdict (runOf treeCounts.tree t xs) (treeRequest f)) p)
+        none-taken (treeCounts.tree .verdict (runOf treeCounts.tree t xs) (treeRequest f)) (treeRequest f)
+        (treeRuns.whole-runs .point t running xs .last a (treeRequest f ∷ []))
+        (ok-accepted j (treeCounts.tree .verdict (runOf treeCounts.tree t xs) (treeRequest f)) p)
     go treeLine.NotAForm p = not-ok j NotAForm p
 
 -- ---- the first line

@@ -88,11 +88,15 @@ formless-answered r t s s′ end out out′ sound same lines past wrote =
     }
 
 -- some lines, and then more
-pub run-then : {r t u : TreeRun} {a b c : rules.State} {piece o p q : List ℕ} → TreeWent r t a b piece o p → TreeWent t u b c piece p q → TreeWent r u a c piece o q
+pub run-then :
+    {r t u : TreeRun} {a b c : rules.State} {piece o p q : List ℕ} → TreeWent r t a b piece o p → TreeWent t u b c piece p q
+    → TreeWent r u a c piece o q
 run-then f g = record { went = went-then (f .went) (g .went); sound = g .sound }
 
 -- what is left fits as before
-pub run-fits : {r t : TreeRun} {a b : rules.State} {piece o p : List ℕ} → Inside r a piece o → TreeWent r t a b piece o p → length p ≡ length o → Inside t b piece p
+pub run-fits :
+    {r t : TreeRun} {a b : rules.State} {piece o p : List ℕ} → Inside r a piece o → TreeWent r t a b piece o p → length p ≡ length o
+    → Inside t b piece p
 run-fits f g n = record {
   sound = g .sound;
   most = g .went .counts;

@@ -135,7 +135,9 @@ more k d r x o n e c =
       sound = c .sound;
     }
   where
-    answers : (j : ℕ) → j < suc (c .made) → answerOf (moved j r) (moveKind (moved j r)) (moved j r .pos) 0 ≡ record { verdict = Accepted; state = moved (suc j) r }
+    answers :
+        (j : ℕ) → j < suc (c .made) → answerOf (moved j r) (moveKind (moved j r)) (moved j r .pos) 0
+        ≡ record { verdict = Accepted; state = moved (suc j) r }
     answers zero h = move-answer r o e
     answers (suc j) h = c .answers j (omega arith)
 
@@ -248,7 +250,8 @@ drive-quiet zero d r o q h =
 drive-quiet (suc k) d r o q h = go (drive-quiet k (suc d) (moveOf r)) (decLt 0 (movesLeft r))
   where
     go :
-        (Open (moveOf r) → Quiet (moveOf r) → movesLeft (moveOf r) ≤ k → (driveFrom k (suc d) (moveOf r) .reason ≡ Conclusive) × (driveFrom k (suc d) (moveOf r) .moves ≡ suc d + movesLeft (moveOf r)))
+        (Open (moveOf r) → Quiet (moveOf r) → movesLeft (moveOf r) ≤ k → (driveFrom k (suc d) (moveOf r) .reason ≡ Conclusive) ×
+        (driveFrom k (suc d) (moveOf r) .moves ≡ suc d + movesLeft (moveOf r)))
         → Dec (0 < movesLeft r)
         → (driveFrom (suc k) d r .reason ≡ Conclusive) × (driveFrom (suc k) d r .moves ≡ d + movesLeft r)
     go ih (no p) =

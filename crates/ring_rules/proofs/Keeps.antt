@@ -42,8 +42,13 @@ module _ (r : State) (s : Sound r) (running : r .closed ≡ false) where
         go (no p) =
             gathered f
             (gathered-by (sendOf r i j) (s .holder)
-            (omega
-            (arith, gathered-of r (s .holder) e, total-set-in (r .sent) i (sentAt r i + 1) (r .n) in-sent hi, total-set-in (r .sent) i (sentAt r i + 1) (suc (r .pos)) in-sent (omega arith))))
+            (omega (
+              arith,
+              gathered-of r (s .holder) e,
+              total-set-in (r .sent) i (sentAt r i + 1) (r .n) in-sent hi,
+              total-set-in (r .sent) i
+                  (sentAt r i + 1) (suc (r .pos)) in-sent (omega arith),
+            )))
     send-safra (positive e) =
         positive
         (above-by (sendOf r i j) (suc (r .pos))

@@ -56,8 +56,14 @@ module _ (r : State) where
   module _ (holder : r .pos < r .n) where
     pub gathered-of : r .q ≡ countersAbove r → Gathered r
     gathered-of e =
-        omega
-        (arith, is-diff (r .q) (total (r .sent) (r .n) - total (r .sent) (suc (r .pos))) (total (r .received) (r .n) - total (r .received) (suc (r .pos))) e, total-mono (r .sent) (suc (r .pos)) (r .n) holder, total-mono (r .received) (suc (r .pos)) (r .n) holder)
+        omega (
+          arith,
+          is-diff (r .q) (total (r .sent) (r .n) - total (r .sent) (suc (r .pos)))
+              (total (r .received) (r .n) - total (r .received) (suc (r .pos))) e,
+          total-mono (r .sent) (suc (r .pos)) (r .n) holder,
+          total-mono
+              (r .received) (suc (r .pos)) (r .n) holder,
+        )
 
     pub gathered-by : Gathered r → r .q ≡ countersAbove r
     gathered-by h =

@@ -60,10 +60,13 @@ module _ (r : State) (ok : Sound r) where
       subst (λ t. Action (ok .some-node) (shown r) t (kindOf k) i j) (sym (made k i j e)) (rule-action r ok (kindOf k) i j (allowed r (kindOf k) i j e .by))
 
   pub accepted-next : (k i j : ℕ) → AcceptsStep r k i j
-      → Next (ok .some-node) (shown r) (shownAfter r k i j) ⊎ ((kindOf k ≡ Announce) × terminationDetected (ok .some-node) (shown r) × (shownAfter r k i j ≡ shown r))
+      → Next (ok .some-node) (shown r) (shownAfter r k i j) ⊎
+      ((kindOf k ≡ Announce) × terminationDetected (ok .some-node) (shown r) × (shownAfter r k i j ≡ shown r))
   accepted-next k i j e = go (accepted-action k i j e)
     where
-      go : {t : Vars (r .n)} {c : Kind} {i j : ℕ} → Action (ok .some-node) (shown r) t c i j → Next (ok .some-node) (shown r) t ⊎ ((c ≡ Announce) × terminationDetected (ok .some-node) (shown r) × (t ≡ shown r))
+      go :
+          {t : Vars (r .n)} {c : Kind} {i j : ℕ} → Action (ok .some-node) (shown r) t c i j
+          → Next (ok .some-node) (shown r) t ⊎ ((c ≡ Announce) × terminationDetected (ok .some-node) (shown r) × (t ≡ shown r))
       go (is-send i a) = inl (environment (sendMsg i a))
       go (is-receive i a) = inl (environment (recvMsg i a))
       go (is-deactivate i a) = inl (environment (deactivate i a))
@@ -92,7 +95,9 @@ module _ (r : State) (ok : Sound r) where
     answered : (k i j : ℕ) (t : Vars (r .n)) → Action (ok .some-node) (shown r) t (kindOf k) i j → Room r k → Answered r ok t
     answered k i j t a room = let p = action-accepted k i j t a room in matched k i j (p .0) (p .1)
 
-    spent-9 : (i : Node (r .n)) (t : Vars (r .n)) (a : SendMsg (ok .some-node) i (shown r) t) → sendLimit ≤ sendsMade r → stepOf r 1 (i .nr) (a .j .nr) .verdict ≡ Refused SendLimit
+    spent-9 :
+        (i : Node (r .n)) (t : Vars (r .n)) (a : SendMsg (ok .some-node) i (shown r) t) → sendLimit ≤ sendsMade r
+        → stepOf r 1 (i .nr) (a .j .nr) .verdict ≡ Refused SendLimit
     spent-9 i t a full =
         ap (λ (x : Answer). x .verdict)
         (sym

@@ -54,16 +54,22 @@ module _ {N : ℕ} (p : 0 < N) {s : Vars N} {m : ℕ} (before : Reachable p s m)
       let z : m ≡ m + 0 = omega arith in
       subst (λ n. Reachable p t n) z (subst (λ u. Reachable p u m) (sym e) before)
 
-step-reaches : (r : State) → Sound r → (k : Kind) (i j : ℕ) → Rule r i j k → {N : ℕ} (p : 0 < N) → r .n ≡ N → Reachable p (varsOf N r) (sendsMade r) → Reachable p (varsOf N (effect r k i j)) (sendsMade (effect r k i j))
+step-reaches :
+    (r : State) → Sound r → (k : Kind) (i j : ℕ) → Rule r i j k → {N : ℕ} (p : 0 < N) → r .n ≡ N → Reachable p (varsOf N r) (sendsMade r)
+    → Reachable p (varsOf N (effect r k i j)) (sendsMade (effect r k i j))
 step-reaches r ok k i j w {N} p size =
     subst (λ (M : ℕ). (h : 0 < M) → Reachable h (varsOf M r) (sendsMade r) → Reachable h (varsOf M (effect r k i j)) (sendsMade (effect r k i j))) size here p
   where
     here : (h : 0 < r .n) → Reachable h (varsOf (r .n) r) (sendsMade r) → Reachable h (varsOf (r .n) (effect r k i j)) (sendsMade (effect r k i j))
     here h b =
         subst (λ (n : ℕ). Reachable h (varsOf (r .n) (effect r k i j)) n) (sym (sends-effect r ok k i j w))
-        (action-reaches h b (subst (λ (q : 0 < r .n). Action q (varsOf (r .n) r) (varsOf (r .n) (effect r k i j)) k i j) (le-prop (ok .some-node) h) (rule-action r ok k i j w)))
+        (action-reaches h b
+        (subst (λ (q : 0 < r .n). Action q (varsOf (r .n) r) (varsOf (r .n) (effect r k i j)) k i j) (le-prop (ok .some-node) h)
+        (rule-action r ok k i j w)))
 
-run-reaches : {r r′ : State} {xs acc : List Request} → Run ring r xs r′ acc → Sound r → {N : ℕ} (p : 0 < N) → r .n ≡ N → Reachable p (varsOf N r) (sendsMade r) → Reachable p (varsOf N r′) (sendsMade r′)
+run-reaches :
+    {r r′ : State} {xs acc : List Request} → Run ring r xs r′ acc → Sound r → {N : ℕ} (p : 0 < N) → r .n ≡ N → Reachable p (varsOf N r) (sendsMade r)
+    → Reachable p (varsOf N r′) (sendsMade r′)
 run-reaches stop ok p size b = b
 run-reaches (took {s = r} {x = x} a c) ok p size b =
     run-reaches c (sound-after r x ok a) p (same-n r (kind x) (x .i) (x .j) ∙ size)
@@ -117,7 +123,9 @@ record One (N : ℕ) (r : State) (t : Vars N) (c : ℕ) : Type 0 where
   count : sendsMade (next ring r x) ≡ sendsMade r + c
 
 module _ (r : State) (ok : Sound r) (running : r .closed ≡ false) where
-  by-action : (k i j : ℕ) (t : Vars (r .n)) → Action (ok .some-node) (varsOf (r .n) r) t (kindOf k) i j → (kindOf k ≡ Send → sendsMade r < sendLimit) → isAnnounce (kindOf k) ≡ false → One (r .n) r t (isSend (kindOf k))
+  by-action :
+      (k i j : ℕ) (t : Vars (r .n)) → Action (ok .some-node) (varsOf (r .n) r) t (kindOf k) i j → (kindOf k ≡ Send → sendsMade r < sendLimit)
+      → isAnnounce (kindOf k) ≡ false → One (r .n) r t (isSend (kindOf k))
   by-action k i j t a room other =
       let l = action-rule r ok t (kindOf k) i j a room in
       let e = accepted r (kindOf k) i j (record { sound = ok; running = running }) (l .rule) in
@@ -130,7 +138,9 @@ module _ (r : State) (ok : Sound r) (running : r .closed ≡ false) where
         count = ap sendsMade made ∙ sends-effect r ok (kindOf k) i j (l .rule);
       }
 
-  by-next : (t : Vars (r .n)) (a : Next (ok .some-node) (varsOf (r .n) r) t) → sendsMade r + sendsIn (ok .some-node) a ≤ sendLimit → One (r .n) r t (sendsIn (ok .some-node) a)
+  by-next :
+      (t : Vars (r .n)) (a : Next (ok .some-node) (varsOf (r .n) r) t) → sendsMade r + sendsIn (ok .some-node) a ≤ sendLimit
+      → One (r .n) r t (sendsIn (ok .some-node) a)
   by-next t (system (initiateProbe a)) h = by-action 4 0 0 t (is-probe a) (λ e. other-kind (sym e) refl) refl
   by-next t (system (passToken i ne a)) h = by-action 5 (i .nr) 0 t (is-pass i ne a) (λ e. other-kind (sym e) refl) refl
   by-next t (environment (sendMsg i a)) h = by-action 1 (i .nr) (a .j .nr) t (is-send i a) (λ e. omega arith) refl
@@ -138,14 +148,19 @@ module _ (r : State) (ok : Sound r) (running : r .closed ≡ false) where
   by-next t (environment (deactivate i a)) h = by-action 3 (i .nr) 0 t (is-deactivate i a) (λ e. other-kind (sym e) refl) refl
 
   -- the same where N is r's number of nodes by an equation, and s what r shows
-  one : {N : ℕ} (p : 0 < N) → r .n ≡ N → {s : Vars N} → varsOf N r ≡ s → (t : Vars N) (a : Next p s t) → sendsMade r + sendsIn p a ≤ sendLimit → One N r t (sendsIn p a)
+  one :
+      {N : ℕ} (p : 0 < N) → r .n ≡ N → {s : Vars N} → varsOf N r ≡ s → (t : Vars N) (a : Next p s t) → sendsMade r + sendsIn p a ≤ sendLimit
+      → One N r t (sendsIn p a)
   one {N} p size {s} e =
       subst (λ (u : Vars N). (t : Vars N) (a : Next p u t) → sendsMade r + sendsIn p a ≤ sendLimit → One N r t (sendsIn p a)) e
       (subst (λ (M : ℕ). (h : 0 < M) (t : Vars M) (a : Next h (varsOf M r) t) → sendsMade r + sendsIn h a ≤ sendLimit → One M r t (sendsIn h a)) size here p)
     where
       here : (h : 0 < r .n) (t : Vars (r .n)) (a : Next h (varsOf (r .n) r) t) → sendsMade r + sendsIn h a ≤ sendLimit → One (r .n) r t (sendsIn h a)
       here h =
-          subst (λ (q : 0 < r .n). (t : Vars (r .n)) (a : Next q (varsOf (r .n) r) t) → sendsMade r + sendsIn q a ≤ sendLimit → One (r .n) r t (sendsIn q a)) (le-prop (ok .some-node) h) by-next
+          subst
+          (λ (q : 0 < r .n). (t : Vars (r .n)) (a : Next q (varsOf (r .n) r) t) → sendsMade r + sendsIn q a ≤ sendLimit → One (r .n) r t
+          (sendsIn q a))
+          (le-prop (ok .some-node) h) by-next
 
 -- one request more
 more : {N : ℕ} {s t : Vars N} {m c : ℕ} (w : RunTo s m) → One N (runOf ring (startOf N (w .flags) .state) (w .requests)) t c → RunTo t (m + c)

@@ -105,7 +105,8 @@ run-active (took {s = r} {x = x} {acc = acc} a c) s b =
     ∙ ap (λ (t : Bool). activeAfter t acc b) (effect-active r s (kind x) (x .i) (x .j) (may r x a .by) b)
 run-active (kept c) s b = run-active c s b
 
-pub run-pending : {r t : State} {xs acc : List Request} → Run ring r xs t acc → Sound r → (b : ℕ) → pendingAt t b + takesBy acc b ≡ pendingAt r b + sendsTo acc b
+pub run-pending :
+    {r t : State} {xs acc : List Request} → Run ring r xs t acc → Sound r → (b : ℕ) → pendingAt t b + takesBy acc b ≡ pendingAt r b + sendsTo acc b
 run-pending stop s b = refl
 run-pending (took {s = r} {x = x} a c) s b =
     omega (arith, run-pending c (sound-after r x s a) b, effect-pending r s (kind x) (x .i) (x .j) (may r x a .by) b)

@@ -234,7 +234,9 @@ none-pending n flags b = zeros-at 96 b
 from-first :
     (n : ℕ) (flags : List ℕ) → startVerdict n flags ≡ Accepted → (xs : List Request) (b : ℕ)
     → (receivedAt (runOf ring (firstState n flags) xs) b ≡ takesBy (acceptedOf ring (firstState n flags) xs) b)
-    × (pendingAt (runOf ring (firstState n flags) xs) b + receivedAt (runOf ring (firstState n flags) xs) b ≡ sendsTo (acceptedOf ring (firstState n flags) xs) b)
+    ×
+    (pendingAt (runOf ring (firstState n flags) xs) b + receivedAt (runOf ring (firstState n flags) xs) b ≡ sendsTo
+    (acceptedOf ring (firstState n flags) xs) b)
 from-first n flags e xs b =
     let r = firstState n flags in
     let s = first-open n flags (fits n flags e) .sound in
@@ -250,7 +252,8 @@ whole-runs =
       from-start =
           λ n flags e xs b.
           subst
-          (λ (r : State). (receivedAt (runOf ring r xs) b ≡ takesBy (acceptedOf ring r xs) b) × (pendingAt (runOf ring r xs) b + receivedAt (runOf ring r xs) b ≡ sendsTo (acceptedOf ring r xs) b))
+          (λ (r : State). (receivedAt (runOf ring r xs) b ≡ takesBy (acceptedOf ring r xs) b) ×
+          (pendingAt (runOf ring r xs) b + receivedAt (runOf ring r xs) b ≡ sendsTo (acceptedOf ring r xs) b))
           (sym (start-answered .first n flags e))
           (from-first n flags e xs b);
       answers = λ r x. refl;

@@ -71,7 +71,9 @@ pub record Allowed (t : State) (k : Kind) (i j : ℕ) : Type 0 where
   pub running : t .closed ≡ false
   pub by : Rule t i j k
 
-rule : (t : State) (k : Kind) (i j : ℕ) → unknown k ≡ false → outside t k i j ≡ false → toSelf k i j ≡ false → guard t k i j ≡ true → sendsSpent t k ≡ false → Rule t i j k
+rule :
+    (t : State) (k : Kind) (i j : ℕ) → unknown k ≡ false → outside t k i j ≡ false → toSelf k i j ≡ false → guard t k i j ≡ true → sendsSpent t k
+    ≡ false → Rule t i j k
 rule t Send i j u o s g p =
     let q = neither _ _ o in
     sends (leb-false _ _ (q .0)) (leb-false _ _ (q .1)) (eqb-false _ _ s) g (leb-false _ _ p)

@@ -19,7 +19,9 @@ refusedAs e t = record { verdict = Refused e; state = t }
 abbrev pub acceptedAs : State → Answer
 acceptedAs s = record { verdict = Accepted; state = s }
 
-by-verdict : (t : State) (k : Kind) (i j : ℕ) (v : Verdict) → verdictOf t k i j ≡ v → record { verdict = v; state = settle v (effect t k i j) t } ≡ answerOf t k i j
+by-verdict :
+    (t : State) (k : Kind) (i j : ℕ) (v : Verdict) → verdictOf t k i j ≡ v → record { verdict = v; state = settle v (effect t k i j) t }
+    ≡ answerOf t k i j
 unfolding answerOf
 by-verdict t k i j v e = ap (λ (w : Verdict). record { verdict = w; state = settle w (effect t k i j) t }) (sym e)
 

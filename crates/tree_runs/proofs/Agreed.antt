@@ -74,7 +74,9 @@ module _ (t : State) (ok : Sound t) where
       → Step a0 (shown t) (shownAfter t k i j) ⊎ ((kindOf k ≡ Announce) × SignalTermination a0 (shown t) × (shownAfter t k i j ≡ shown t))
   accepted-step k i j e = go (accepted-rule k i j e)
     where
-      go : {u : Systems (t .n)} {c : Kind} {i j : ℕ} → Action a0 (shown t) u c i j → Step a0 (shown t) u ⊎ ((c ≡ Announce) × SignalTermination a0 (shown t) × (u ≡ shown t))
+      go :
+          {u : Systems (t .n)} {c : Kind} {i j : ℕ} → Action a0 (shown t) u c i j
+          → Step a0 (shown t) u ⊎ ((c ≡ Announce) × SignalTermination a0 (shown t) × (u ≡ shown t))
       go (is-send i j x) = inl (send-DAT i j x)
       go (is-take i k x) = inl (receive-DAT i k x)
       go (is-idle i x) = inl (deactivate i x)

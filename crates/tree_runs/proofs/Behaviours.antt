@@ -159,7 +159,9 @@ module _ (t : State) (ok : Sound t) (running : t .closed ≡ false) where
         count = ap (λ (u : State). u .sends) made ∙ sends-effect t (kindOf k) i j (l .rule);
       }
 
-  by-step : (u : Systems (t .n)) (a : Step (rootOf t ok) (systemsOf (t .n) t) u) → ToAnother (rootOf t ok) a → t .sends + sendsIn (rootOf t ok) a ≤ sendLimit → One (t .n) t u (sendsIn (rootOf t ok) a)
+  by-step :
+      (u : Systems (t .n)) (a : Step (rootOf t ok) (systemsOf (t .n) t) u) → ToAnother (rootOf t ok) a
+      → t .sends + sendsIn (rootOf t ok) a ≤ sendLimit → One (t .n) t u (sendsIn (rootOf t ok) a)
   by-step u (deactivate i x) w h = by-rule 3 (i .nr) 0 u (is-idle i x) (λ e. other-kind (sym e) refl) refl
   by-step u (send-DAT i j x) w h = by-rule 1 (i .nr) (j .nr) u (is-send i j x) (λ e. (omega arith, w)) refl
   by-step u (receive-DAT i k x) w h = by-rule 2 (i .nr) (k .nr) u (is-take i k x) (λ e. other-kind (sym e) refl) refl
@@ -172,7 +174,9 @@ module _ (t : State) (ok : Sound t) (running : t .closed ≡ false) where
       → (u : Systems N) (a : Step a0 s u) → ToAnother a0 a → t .sends + sendsIn a0 a ≤ sendLimit → One N t u (sendsIn a0 a)
   one {N} a0 size e {s} p =
       subst (λ (v : Systems N). (u : Systems N) (a : Step a0 v u) → ToAnother a0 a → t .sends + sendsIn a0 a ≤ sendLimit → One N t u (sendsIn a0 a)) p
-      (moved (λ M b. (u : Systems M) (a : Step b (systemsOf M t) u) → ToAnother b a → t .sends + sendsIn b a ≤ sendLimit → One M t u (sendsIn b a)) t ok by-step a0 size e)
+      (moved
+      (λ M b. (u : Systems M) (a : Step b (systemsOf M t) u) → ToAnother b a → t .sends + sendsIn b a ≤ sendLimit → One M t u
+      (sendsIn b a)) t ok by-step a0 size e)
 
 module _ {N : ℕ} (a0 : Addr N) (small : N ≤ 16) where
   -- one request more
@@ -206,7 +210,8 @@ module _ {N : ℕ} (a0 : Addr N) (small : N ≤ 16) where
   run-more {u = u} w a other h =
       let p = traced (first a0 small) (first-sound a0 small) (w .requests) in
       more w
-      (one (runOf tree (first a0 small) (w .requests)) (p .sound) (w .running) a0 (p .nodes ∙ first-n a0 small) (p .root ∙ first-root a0 small) (w .there) u a other
+      (one (runOf tree (first a0 small) (w .requests)) (p .sound) (w .running) a0 (p .nodes ∙ first-n a0 small) (p .root ∙ first-root a0 small)
+      (w .there) u a other
       (omega (arith, w .count, h)))
 
   pub reachable-run : {u : Systems N} {m : ℕ} → Reachable a0 u m → m ≤ sendLimit → RunTo a0 u m

@@ -15,7 +15,9 @@ use Rattle.tree_runs.specs.DijkstraScholten.{Addr, _BUT_≔_, addr, null
 use Rattle.tree_runs.specs.View.{engagerOf}
 
 -- a function that has v at i and f elsewhere
-is-but {ℓ} : {N : ℕ} {A : Type ℓ} (g f : Addr N → A) (i : Addr N) (v : A) → ((k : Addr N) → k .nr ≡ i .nr → g k ≡ v) → ((k : Addr N) → k .nr ≢ i .nr → g k ≡ f k) → g ≡ f BUT i ≔ v
+is-but {ℓ} :
+    {N : ℕ} {A : Type ℓ} (g f : Addr N → A) (i : Addr N) (v : A) → ((k : Addr N) → k .nr ≡ i .nr → g k ≡ v)
+    → ((k : Addr N) → k .nr ≢ i .nr → g k ≡ f k) → g ≡ f BUT i ≔ v
 is-but {N} {A} g f i v here there = fun-ext (λ k. at k (ℕ-discrete (k .nr) (i .nr)))
   where
     at : (k : Addr N) → Dec (k .nr ≡ i .nr) → g k ≡ cond (eqb (k .nr) (i .nr)) v (f k)
@@ -23,7 +25,9 @@ is-but {N} {A} g f i v here there = fun-ext (λ k. at k (ℕ-discrete (k .nr) (i
     at k (no e) = rw (ne-eqb _ _ e) (there k e)
 
 -- a column, seen through g
-pub set-but {ℓ} : {N : ℕ} (i : Addr N) {A B : Type ℓ} (g : A → B) (l : List A) (v d : A) (w : B) → g v ≡ w → i .nr < length l → (λ (k : Addr N). g (getD (set l (i .nr) v) (k .nr) d)) ≡ (λ k. g (getD l (k .nr) d)) BUT i ≔ w
+pub set-but {ℓ} :
+    {N : ℕ} (i : Addr N) {A B : Type ℓ} (g : A → B) (l : List A) (v d : A) (w : B) → g v ≡ w → i .nr < length l
+    → (λ (k : Addr N). g (getD (set l (i .nr) v) (k .nr) d)) ≡ (λ k. g (getD l (k .nr) d)) BUT i ≔ w
 set-but i g l v d w e h =
     is-but _ _ i w
     (λ k p. ap (λ (x : ℕ). g (getD (set l (i .nr) v) x d)) p ∙ (ap g (getD-set-same l (i .nr) v d h) ∙ e))

@@ -42,7 +42,9 @@ module _ {N : ℕ} (a0 : Addr N) (small : N ≤ 16) where
   first-initial =
       record {
         active = fun-ext (λ j. one-set (λ (x : Bool). x) true false j ∙ bool (isFirst a0 j));
-        engager = fun-ext (λ j. one-set engagerOf (a0 .nr) 16 j ∙ ap (λ (e : Engager). cond (isFirst a0 j) e null) (of-addr (a0 .nr) (omega (arith, a0 .below))));
+        engager =
+            fun-ext
+            (λ j. one-set engagerOf (a0 .nr) 16 j ∙ ap (λ (e : Engager). cond (isFirst a0 j) e null) (of-addr (a0 .nr) (omega (arith, a0 .below))));
         unAcked = fun-ext (λ j. zeros 16 (j .nr) (omega (arith, j .below)));
         DAT = fun-ext (λ j. fun-ext (λ k. zeros 256 (j .nr * 16 + k .nr) (omega (arith, j .below, k .below))));
         ACK = fun-ext (λ j. zeros 16 (j .nr) (omega (arith, j .below)));

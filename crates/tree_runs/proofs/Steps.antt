@@ -18,7 +18,8 @@ use Rattle.tree_runs.specs.DijkstraScholten.{Addr, Branch, Disengage, En
 use Rattle.tree_runs.specs.View.{Action, engagerOf, is-ack, is-announce, is-idle, is-leave, is-send, is-take, systemsOf}
 
 -- two states with the same variables
-pub same-systems : {N : ℕ} {a b : Systems N} → a .active ≡ b .active → a .engager ≡ b .engager → a .unAcked ≡ b .unAcked → a .DAT ≡ b .DAT → a .ACK ≡ b .ACK → a ≡ b
+pub same-systems :
+    {N : ℕ} {a b : Systems N} → a .active ≡ b .active → a .engager ≡ b .engager → a .unAcked ≡ b .unAcked → a .DAT ≡ b .DAT → a .ACK ≡ b .ACK → a ≡ b
 same-systems e₁ e₂ e₃ e₄ e₅ = λ x. record { active = e₁ x; engager = e₂ x; unAcked = e₃ x; DAT = e₄ x; ACK = e₅ x }
 
 module _ (t : State) (ok : Sound t) where
@@ -41,7 +42,9 @@ module _ (t : State) (ok : Sound t) where
     active-but : (v : Bool) → (λ (k : Addr (t .n)). getD (set (t .active) (i .nr) v) (k .nr) false) ≡ s .active BUT i ≔ v
     active-but v = set-but i (λ (x : Bool). x) (t .active) v false v refl (omega (arith, ok .shape .active-places, low))
 
-    engager-but : (v : ℕ) (w : Engager) → engagerOf v ≡ w → (λ (k : Addr (t .n)). engagerOf (getD (set (t .engager) (i .nr) v) (k .nr) 16)) ≡ s .engager BUT i ≔ w
+    engager-but :
+        (v : ℕ) (w : Engager) → engagerOf v ≡ w → (λ (k : Addr (t .n)). engagerOf (getD (set (t .engager) (i .nr) v) (k .nr) 16))
+        ≡ s .engager BUT i ≔ w
     engager-but v w e = set-but i engagerOf (t .engager) v 16 w e (in-engager t f (i .nr) low)
 
     unacked-but : (v : ℕ) → (λ (k : Addr (t .n)). getD (set (t .unacked) (i .nr) v) (k .nr) 0) ≡ s .unAcked BUT i ≔ v
@@ -50,7 +53,9 @@ module _ (t : State) (ok : Sound t) where
     acks-but : (v : ℕ) → (λ (k : Addr (t .n)). getD (set (t .acks) (i .nr) v) (k .nr) 0) ≡ s .ACK BUT i ≔ v
     acks-but v = set-but i same (t .acks) v 0 v refl (in-acks t f (i .nr) low)
 
-    transit-but : (j : Addr (t .n)) (v : ℕ) → (λ (a b : Addr (t .n)). getD (set (t .transit) (i .nr * 16 + j .nr) v) (a .nr * 16 + b .nr) 0) ≡ s .DAT BUT i ≔ (s .DAT i BUT j ≔ v)
+    transit-but :
+        (j : Addr (t .n)) (v : ℕ) → (λ (a b : Addr (t .n)). getD (set (t .transit) (i .nr * 16 + j .nr) v) (a .nr * 16 + b .nr) 0)
+        ≡ s .DAT BUT i ≔ (s .DAT i BUT j ≔ v)
     transit-but j v = pair-but (ok .nodes) i j (t .transit) v (in-transit t f (i .nr) (j .nr) low (low′ j))
       where
         low′ : (k : Addr (t .n)) → k .nr < 16

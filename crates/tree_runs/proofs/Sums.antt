@@ -57,7 +57,9 @@ module _ (t : State) (ok : Sound t) where
   edges-are j =
       ap (λ (g : Addr (t .n) → ℕ). sum g)
       (fun-ext (λ (k : Addr (t .n)). ap (λ (b : Bool). cond {A = ℕ} (not (eqb (k .nr) (t .root)) && b) 1 0) (edge-is (j .nr) (engagerAt t (k .nr)) (low j))))
-      ∙ (sum-is one (t .n) (le-refl (t .n)) ∙ (sym (sum-short (t .n) 16 one (ok .nodes) none-above) ∙ sym (count-sum 16 (isChild (t .root) (t .engager) (j .nr)))))
+      ∙
+      (sum-is one (t .n) (le-refl (t .n)) ∙
+      (sym (sum-short (t .n) 16 one (ok .nodes) none-above) ∙ sym (count-sum 16 (isChild (t .root) (t .engager) (j .nr)))))
     where
       one : ℕ → ℕ
       one k = cond (isChild (t .root) (t .engager) (j .nr) k) 1 0

@@ -23,7 +23,8 @@ code-requires c κs = search needs
 returns : tie.Need-returns
 returns c =
     let f : SFits w64
-    (c .before .before .before .before .before .before .before .before .before .before .before .before .before .before .before .before .before .args .q .now) = search needs in
+    (c .before .before .before .before .before .before .before .before .before .before .before .before .before .before .before .before .before .args .q .now) =
+    search needs in
     let g : SFits w64 (c .before .before .before .before .before .before .before .before .step .result .ring .q) = search needs in
     let at-step = c .before .before .before .before .before .before .before .before in
     let at-gathered = at-step .before in

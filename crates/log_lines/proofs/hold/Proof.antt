@@ -10,7 +10,8 @@ use Rattle.log_lines.proofs.hold.Statement.{statement}
 use Rattle.log_lines.proofs.hold.Tie as tie
 
 abbrev Inv-loop : tie.InvT-loop
-Inv-loop piece from to line₀ len k₀ i₀ line k i = (from ≤ i) × (i ≤ to) × (k ≤ 701) × (length line ≡ 700) × (min (k + (to - i)) 701 ≡ min (len + (to - from)) 701)
+Inv-loop piece from to line₀ len k₀ i₀ line k i =
+    (from ≤ i) × (i ≤ to) × (k ≤ 701) × (length line ≡ 700) × (min (k + (to - i)) 701 ≡ min (len + (to - from)) 701)
     × (take 700 (take k line ++ part piece i to) ≡ take 700 (take len line₀ ++ part piece from to))
 
 abbrev μ-loop : tie.MeasureT-loop

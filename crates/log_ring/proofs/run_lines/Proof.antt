@@ -13,7 +13,9 @@ use Rattle.log_ring.proofs.run_lines.Statement.{statement}
 use Rattle.log_ring.proofs.run_lines.Tie as tie
 
 abbrev Inv-loop : tie.InvT-loop
-Inv-loop active₀ color₀ sent₀ received₀ pending₀ piece out₀ r₀ active color sent received pending out r = RingWent r₀ r (whole (r₀ .rest) active₀ color₀ sent₀ received₀ pending₀) (whole (r .rest) active color sent received pending) piece out₀ out × (length out ≡ length out₀)
+Inv-loop active₀ color₀ sent₀ received₀ pending₀ piece out₀ r₀ active color sent received pending out r =
+    RingWent r₀ r (whole (r₀ .rest) active₀ color₀ sent₀ received₀ pending₀) (whole (r .rest) active color sent received pending) piece out₀ out ×
+    (length out ≡ length out₀)
 
 abbrev μ-loop : tie.MeasureT-loop
 μ-loop active₀ color₀ sent₀ received₀ pending₀ piece out₀ r₀ active color sent received pending out r = length piece - r .next

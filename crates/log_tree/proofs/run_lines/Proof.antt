@@ -13,7 +13,9 @@ use Rattle.log_tree.proofs.run_lines.Statement.{statement}
 use Rattle.log_tree.proofs.run_lines.Tie as tie
 
 abbrev Inv-loop : tie.InvT-loop
-Inv-loop active₀ engager₀ unacked₀ transit₀ acks₀ piece out₀ r₀ active engager unacked transit acks out r = TreeWent r₀ r (whole (r₀ .rest) active₀ engager₀ unacked₀ transit₀ acks₀) (whole (r .rest) active engager unacked transit acks) piece out₀ out × (length out ≡ length out₀)
+Inv-loop active₀ engager₀ unacked₀ transit₀ acks₀ piece out₀ r₀ active engager unacked transit acks out r =
+    TreeWent r₀ r (whole (r₀ .rest) active₀ engager₀ unacked₀ transit₀ acks₀) (whole (r .rest) active engager unacked transit acks) piece out₀ out ×
+    (length out ≡ length out₀)
 
 abbrev μ-loop : tie.MeasureT-loop
 μ-loop active₀ engager₀ unacked₀ transit₀ acks₀ piece out₀ r₀ active engager unacked transit acks out r = length piece - r .next

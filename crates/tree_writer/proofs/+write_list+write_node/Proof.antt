@@ -188,7 +188,9 @@ write-node-add-result t c =
     omega (arith, simp length-append at (ap length text))
 
 write-node-same-length : (t : ℕ) → write-node-lts.Need-same-length (node-calls t) (write-node-at t) write-node.Post
-write-node-same-length t c = simp length-set (c .before .before .write-list .kept .0 ∙ (c .before .before .before .before .before .before .put-decimal .kept .0 ∙ simp length-set))
+write-node-same-length t c =
+    simp length-set
+    (c .before .before .write-list .kept .0 ∙ (c .before .before .before .before .before .before .put-decimal .kept .0 ∙ simp length-set))
 
 write-node-returns-2 : (t : ℕ) → write-node-lts.Need-returns-2 (node-calls t) (write-node-at t) write-node.Post
 unfolding put

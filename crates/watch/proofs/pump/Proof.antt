@@ -6,7 +6,8 @@ use Rattle.watch.proofs.pump.Statement.{statement}
 use Rattle.watch.proofs.pump.Tie as tie
 
 abbrev Inv-loop : tie.InvT-loop
-Inv-loop piece₀ line₀ out₀ log₀ turns₀ piece line out log turns = (length piece ≡ length piece₀) × (length out ≡ length out₀) × (length line ≡ length line₀) × Good log line
+Inv-loop piece₀ line₀ out₀ log₀ turns₀ piece line out log turns =
+    (length piece ≡ length piece₀) × (length out ≡ length out₀) × (length line ≡ length line₀) × Good log line
 
 abbrev μ-loop : tie.MeasureT-loop
 μ-loop piece₀ line₀ out₀ log₀ turns₀ piece line out log turns = turns
