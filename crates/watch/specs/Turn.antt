@@ -1,19 +1,33 @@
 -- One turn of the program: a read, the lines of what was read, and a write.
-use Prim.Native.Nat.{_≤_, ℕ}
+use Prim.Native.Nat.{ℕ}
+use Rattle.io.specs.Counts.{clamped}
+use lib.Dec.{ltb}
+use lib.IntN.{pos, ℤ}
 use lib.ListN.{length, take}
-use mathlib.Core.Bool.{false}
+use lib.Signed.{ltZ}
+use mathlib.Core.Bool.{_&&_, false, true}
 use mathlib.Core.List.{List}
 use mathlib.Core.Path.{_≡_}
 use Rattle.log_held.specs.Feed.{FedFrom, stageOf}
 use Rattle.log_held.specs.declared.Log.{Log}
+use Rattle.log_rules.specs.Lines.{lineLimit}
 use Rattle.log_rules.specs.Pieces.{heldOf}
 use Rattle.watch.specs.declared.Step.{Step}
 
--- `piece′` and `out′` are the buffers after the turn. Either n bytes were read, and the first `count` bytes of `out′`, which the turn hands to
--- write, are what the definition says of them; or nothing was read, and the program goes on no further.
-pub data Turned (l : Log) (s : Step) (line line′ piece′ out out′ : List ℕ) : Type 0 where
-  fed :
-      (n : ℕ) → n ≤ length piece′
-      → FedFrom (stageOf l) (l .lines) (heldOf line (l .len)) (take n piece′) (record { log = s .log; count = s .count }) line′ 0 out out′
-      → Turned l s line line′ piece′ out out′
-  stopped : s .log ≡ l → line′ ≡ line → s .count ≡ 0 → s .more ≡ false → Turned l s line line′ piece′ out out′
+-- the first n bytes of a piece are answered: the first `count` bytes of `out′` are what the definition says of them
+abbrev pub Answers : Log → ℕ → List ℕ → Step → List ℕ → List ℕ → List ℕ → List ℕ → Type 0
+Answers l n piece s line line′ out out′ =
+    FedFrom (stageOf l) (l .lines) (heldOf line (l .len)) (take n piece) (record { log = s .log; count = s .count }) line′ 0 out out′
+
+-- What is made of a piece where read has answered `got`: that many of its bytes are answered, none where it is 0 or less. The program
+-- goes on if there were any and the last line of a log is not reached; a number below 0 is a failure.
+pub record Answered (l : Log) (piece : List ℕ) (got : ℤ) (s : Step) (line line′ out out′ : List ℕ) : Type 0 where
+  pub answers : Answers l (clamped got (length piece)) piece s line line′ out out′
+  pub more : s .more ≡ (ltZ (pos 0) got && ltb (s .log .lines) lineLimit)
+  pub failed : s .failed ≡ ltZ got (pos 0)
+
+-- a turn answers the bytes of some answer of read, and goes on or fails as this says, or stops because a write failed
+pub record Turned (l : Log) (piece : List ℕ) (s : Step) (line line′ out out′ : List ℕ) : Type 0 where
+  pub got : ℤ
+  pub answers : Answers l (clamped got (length piece)) piece s line line′ out out′
+  pub more : s .more ≡ true → (ltZ (pos 0) got ≡ true) × (s .failed ≡ false)

@@ -4,7 +4,7 @@ ghost use mathlib.Core.Path.{_≡_};
 ghost use Prim.Native.Nat.{_+_, _*_, _≤_};
 ghost use lib.ListN.{length};
 ghost use Rattle.log_held.specs.Feed.{Good};
-ghost use Rattle.watch.specs.Turn.{Turned};
+ghost use Rattle.watch.specs.Turn.{Answered, Turned};
 
 // The log after a piece, how many bytes of answers were handed to write, whether to go on, and whether a read or a write failed.
 pub struct Step {
@@ -14,31 +14,38 @@ pub struct Step {
     pub failed: bool,
 }
 
+// The lines of a piece into which read has put its first `got` bytes, answered in `out`.
+fn answer(log: Log, piece: &[u8], got: isize, line: &mut [u8], out: &mut [u8]) -> Step
+    requires { ⌜ Good log (now line) × ((length (now piece) + 700) * 16 ≤ length (now out)) ⌝ }
+    ensures { λ s. ⌜ Answered log (now (piece .entry)) got s (now (line .entry)) (now (line .exit)) (now (out .entry)) (now (out .exit)) ⌝ }
+{
+    let n = io::count(got, piece);
+    let f = log::feed(log, &piece[..n], line, out);
+    let next = f.log;
+    let more = (0 < got) & (next.lines < 1000000);
+    Step {
+        log: next,
+        count: f.count,
+        more,
+        failed: got < 0,
+    }
+}
+
 // One read, its lines, and one write.
 fn one_piece(log: Log, piece: &mut [u8], line: &mut [u8], out: &mut [u8]) -> Step
     requires { ⌜ Good log (now line) × ((length (now piece) + 700) * 16 ≤ length (now out)) ⌝ }
-    ensures { λ s. ⌜ Good (s .log) (now (line .exit)) × Turned log s (now (line .entry)) (now (line .exit)) (now (piece .exit)) (now (out .entry)) (now (out .exit)) ⌝ }
+    ensures { λ s. ⌜ Turned log (now (piece .exit)) s (now (line .entry)) (now (line .exit)) (now (out .entry)) (now (out .exit)) ⌝ }
 {
     let got = libc::read(libc::STDIN_FILENO, piece);
-    if got <= 0 {
-        return Step {
-            log,
-            count: 0,
-            more: false,
-            failed: got < 0,
-        };
-    }
-    let n = io::count(got, piece);
-    let f = log::feed(log, &piece[..n], line, out);
-    let count = f.count;
-    let next = f.log;
+    let s = answer(log, piece, got, line, out);
+    let count = s.count;
     let written = io::write_all(libc::STDOUT_FILENO, &out[..count]);
-    let more = written & (next.lines < 1000000);
+    let next = s.log;
     Step {
         log: next,
         count,
-        more,
-        failed: !written,
+        more: s.more & written,
+        failed: s.failed | !written,
     }
 }
 

@@ -1,42 +1,44 @@
+use borrow.Author.Needs.{needs, sfits-of}
+use borrow.Author.Tests.{le-ltb}
+use lib.IntN.{negsuc, pos, ℤ}
 use lib.Seq.{length-take-le}
-use mathlib.Core.Path.{refl, sym}
+use lib.Signed.{ltZ}
+use mathlib.Core.Bool.{_||_, false, not, true}
+use mathlib.Core.Path.{_∙_, _≡_, sym}
+use mir.Facts.{toZ-ofZ}
+use mir.Syntax.{w64}
+use mir.Val.{SFits}
 use native.Mathlib.Omega.{arith}
-use Rattle.watch.specs.Turn.{fed, stopped}
-use borrow.Author.Needs.{needs}
+use Rattle.laws.proofs.Tests.{both, false-true}
 use Rattle.watch.proofs.one_piece.Statement.{statement}
 use Rattle.watch.proofs.one_piece.Tie as tie
+
+-- a number above 0 is not below 0
+not-below : (z : ℤ) → ltZ (pos 0) z ≡ true → ltZ z (pos 0) ≡ false
+not-below (pos k) e = le-ltb k 0 (omega arith)
+not-below (negsuc k) e = absurd (false-true e)
 
 read-requires : tie.Need-read-requires
 read-requires c κs = search needs
 
-same-length : tie.Need-same-length
-same-length c = search needs
-
-returns : tie.Need-returns
-returns c = (c .before .before .before .before .before .before .before .before .pre .0, stopped refl refl refl refl)
-
-count-requires : tie.Need-count-requires
-count-requires c κs = search needs
-
-slice-reshare-prefix-feed : tie.Need-slice-reshare-prefix-feed
-slice-reshare-prefix-feed c = search needs
-
-slice-aggregate-feed : tie.Need-slice-aggregate-feed
-slice-aggregate-feed c = search needs
-
-feed-requires : tie.Need-feed-requires
-feed-requires c κs = search needs
+answer-requires : tie.Need-answer-requires
+answer-requires c κs = search needs
 
 slice-reshare-prefix-write-all : tie.Need-slice-reshare-prefix-write-all
 slice-reshare-prefix-write-all c = search needs
 
 slice-aggregate-write-all : tie.Need-slice-aggregate-write-all
 slice-aggregate-write-all c =
-    let at-feed = c .before .before .before .before .before .before in
-    sym (length-take-le _ _ (omega (arith, at-feed .feed .ensures .room, at-feed .feed .kept)))
+    let at-answer = c .before .before .before .before .before in
+    sym (length-take-le _ _ (omega (arith, at-answer .answer .ensures .answers .room, at-answer .answer .kept)))
 
 write-all-requires : tie.Need-write-all-requires
 write-all-requires c κs = search needs
+
+same-length : tie.Need-same-length
+same-length c =
+    let at-read = c .before .before .before .before .before .before .before .before .before .before .before .before .before .before .before in
+    at-read .read .kept .1 .0
 
 same-length-2 : tie.Need-same-length-2
 same-length-2 c = search needs
@@ -44,30 +46,32 @@ same-length-2 c = search needs
 same-length-3 : tie.Need-same-length-3
 same-length-3 c = search needs
 
-same-length-4 : tie.Need-same-length-4
-same-length-4 c = search needs
-
-returns-2 : tie.Need-returns-2
-returns-2 c =
-    let at-feed = c .before .before .before .before .before .before .before .before in
-    let at-count = at-feed .before .before .before .before in
-    (at-feed .feed .ensures .good, fed _ (at-count .count .ensures .0 .0) (at-feed .feed .ensures))
+returns : tie.Need-returns
+returns c =
+    let at-answer = c .before .before .before .before .before .before .before .before .before in
+    let at-read = at-answer .before .before .before .before .before .before in
+    let done = at-answer .answer .ensures in
+    let f : SFits w64 (at-read .read .result) = sfits-of (at-read .read .ok) in
+    record {
+      got = at-read .read .result;
+      answers = rw (toZ-ofZ f) at (done .answers);
+      more = λ m.
+          let p = both _ _ m in
+          let above = both _ _ (sym (rw (toZ-ofZ f) at (done .more)) ∙ p .0) .0 in
+          let failed = rw (toZ-ofZ f) at (done .failed) in
+          (above, λ x. (failed ∙ not-below (at-read .read .result) above) x || not (p .1 x));
+    }
 
 pub one-piece-spec : {M : Type 1} → statement M
 one-piece-spec =
     tie.close
     (tie.spec
     read-requires
-    same-length
-    returns
-    count-requires
-    slice-reshare-prefix-feed
-    slice-aggregate-feed
-    feed-requires
+    answer-requires
     slice-reshare-prefix-write-all
     slice-aggregate-write-all
     write-all-requires
+    same-length
     same-length-2
     same-length-3
-    same-length-4
-    returns-2)
+    returns)

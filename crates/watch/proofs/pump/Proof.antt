@@ -40,7 +40,7 @@ same-length-3 c =
     omega (arith, at-loop .loop .inv .1, at-one-piece .one-piece .kept)
 
 returns : tie.Need-returns Inv-loop μ-loop
-returns c = c .before .before .before .before .before .before .before .before .one-piece .ensures .0
+returns c = c .before .before .before .before .before .before .before .before .one-piece .ensures .answers .good
 
 sub-turns : tie.Need-sub-turns Inv-loop μ-loop
 sub-turns c = omega arith
@@ -56,7 +56,7 @@ loop-again c =
       omega (arith, at-loop .loop .inv .1, at-one-piece .one-piece .kept),
       omega
           (arith, at-loop .loop .inv .2, at-one-piece .one-piece .kept),
-      at-one-piece .one-piece .ensures .0,
+      at-one-piece .one-piece .ensures .answers .good,
     )
 
 same-length-4 : tie.Need-same-length-4 Inv-loop μ-loop
