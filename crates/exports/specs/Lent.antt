@@ -3,7 +3,10 @@ use Prim.Native.Nat.{ℕ}
 use lib.IntN.{ℤ}
 use mathlib.Core.Bool.{Bool}
 use mathlib.Core.List.{List}
-use Rattle.refusal.specs.Table.{numberOf}
+use mathlib.Core.Path.{_≡_}
+use Rattle.refusal.specs.Table.{codeOf, numberOf}
+use Rattle.ring_rules.specs.Answers.{stepOf}
+use Rattle.ring_rules.specs.Driver.{driveOf}
 use Rattle.ring_rules.specs.State.{State}
 use Rattle.ring_rules.specs.declared.Reason.{Reason}
 use Rattle.ring_rules.specs.declared.Reason.the-variants.{Conclusive, Spent, Stopped, Waiting}
@@ -29,3 +32,12 @@ reasonOf Conclusive = 0
 reasonOf Waiting = 1
 reasonOf Spent = 2
 reasonOf (Stopped e) = numberOf e
+
+-- a step of the ring r in place: the number of its answer, and the ring that lies in the fields afterwards
+abbrev pub Stepped : State → ℕ → ℕ → ℕ → ℕ → State → Type 0
+Stepped r kind i j number after = (number ≡ codeOf (stepOf r kind i j .verdict)) × (after ≡ stepOf r kind i j .state)
+
+-- the driver likewise: the number of its reason, its moves, and the ring afterwards
+abbrev pub DrivenTo : State → ℕ → ℕ → ℕ → State → Type 0
+DrivenTo r limit number moves after =
+    (number ≡ reasonOf (driveOf r limit .reason)) × (moves ≡ driveOf r limit .moves) × (after ≡ driveOf r limit .state)

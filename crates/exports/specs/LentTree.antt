@@ -2,8 +2,11 @@
 use Prim.Native.Nat.{ℕ}
 use mathlib.Core.Bool.{Bool}
 use mathlib.Core.List.{List}
-use Rattle.refusal.specs.Table.{numberOf}
+use mathlib.Core.Path.{_≡_}
+use Rattle.refusal.specs.Table.{codeOf, numberOf}
 use Rattle.tree_rules.specs.State.{State}
+use Rattle.tree_text.specs.Read.{readOf}
+use Rattle.tree_text.specs.Write.{bufferOf, writtenOf}
 use Rattle.tree_text.specs.declared.Written.{Written}
 use Rattle.tree_text.specs.declared.Written.the-variants.{Length, NotWritten}
 
@@ -28,3 +31,13 @@ writtenNumber (NotWritten e) = numberOf e
 abbrev pub writtenLength : Written → ℕ
 writtenLength (Length k) = k
 writtenLength (NotWritten e) = 0
+
+-- the text of the tree t written: the number of the answer, the length, and the buffer afterwards
+abbrev pub WrittenAs : State → List ℕ → ℕ → ℕ → List ℕ → Type 0
+WrittenAs t buf number length after =
+    (number ≡ writtenNumber (writtenOf t buf)) × (length ≡ writtenLength (writtenOf t buf)) × (after ≡ bufferOf t buf)
+
+-- a text read: the number of the answer, the engagers and the root
+abbrev pub ReadAs : ℕ → List ℕ → ℕ → List ℕ → ℕ → Type 0
+ReadAs n s number engager root =
+    (number ≡ codeOf (readOf n s .verdict)) × (engager ≡ readOf n s .engager) × (root ≡ readOf n s .root)

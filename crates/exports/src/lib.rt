@@ -4,15 +4,10 @@ use ring_rules::Reason;
 use tree::Tree;
 use tree_text::Written;
 ghost use mathlib.Core.Path.{_≡_};
-ghost use Rattle.refusal.specs.Table.{codeOf};
 ghost use Rattle.ring_rules.specs.Soundness.{soundTest};
-ghost use Rattle.ring_rules.specs.Answers.{stepOf};
-ghost use Rattle.ring_rules.specs.Driver.{driveOf};
 ghost use Rattle.ring.specs.View.{state};
-ghost use Rattle.tree_text.specs.Read.{readOf};
-ghost use Rattle.tree_text.specs.Write.{writtenOf, bufferOf};
-ghost use Rattle.exports.specs.Lent.{lent, reasonOf};
-ghost use Rattle.exports.specs.LentTree.{lentTree, writtenNumber, writtenLength};
+ghost use Rattle.exports.specs.Lent.{lent, reasonOf, Stepped, DrivenTo};
+ghost use Rattle.exports.specs.LentTree.{lentTree, writtenNumber, writtenLength, WrittenAs, ReadAs};
 
 // The ring that lies in lent fields.
 fn gathered(
@@ -60,9 +55,8 @@ pub extern "C" fn ring_step(
     i: usize,
     j: usize,
 ) -> u8
-    ensures { λ r. ⌜ (r ≡ codeOf (stepOf (lent n (now (active .entry)) (now (color .entry)) (now (sent .entry)) (now (received .entry)) (now (pending .entry)) (now (pos .entry)) (now (q .entry)) (now (black .entry)) (now (closed .entry))) kind i j .verdict))
-        × (lent (stepOf (lent n (now (active .entry)) (now (color .entry)) (now (sent .entry)) (now (received .entry)) (now (pending .entry)) (now (pos .entry)) (now (q .entry)) (now (black .entry)) (now (closed .entry))) kind i j .state .n) (now (active .exit)) (now (color .exit)) (now (sent .exit)) (now (received .exit)) (now (pending .exit)) (now (pos .exit)) (now (q .exit)) (now (black .exit)) (now (closed .exit))
-        ≡ stepOf (lent n (now (active .entry)) (now (color .entry)) (now (sent .entry)) (now (received .entry)) (now (pending .entry)) (now (pos .entry)) (now (q .entry)) (now (black .entry)) (now (closed .entry))) kind i j .state) ⌝ }
+    ensures { λ r. ⌜ Stepped (lent n (now (active .entry)) (now (color .entry)) (now (sent .entry)) (now (received .entry)) (now (pending .entry)) (now (pos .entry)) (now (q .entry)) (now (black .entry)) (now (closed .entry))) kind i j r
+        (lent n (now (active .exit)) (now (color .exit)) (now (sent .exit)) (now (received .exit)) (now (pending .exit)) (now (pos .exit)) (now (q .exit)) (now (black .exit)) (now (closed .exit))) ⌝ }
 {
     let ring = gathered(
         n,
@@ -156,10 +150,8 @@ pub extern "C" fn ring_drive(
     limit: u32,
     moves: &mut u32,
 ) -> u8
-    ensures { λ r. ⌜ (r ≡ reasonOf (driveOf (lent n (now (active .entry)) (now (color .entry)) (now (sent .entry)) (now (received .entry)) (now (pending .entry)) (now (pos .entry)) (now (q .entry)) (now (black .entry)) closed) limit .reason))
-        × (now (moves .exit) ≡ driveOf (lent n (now (active .entry)) (now (color .entry)) (now (sent .entry)) (now (received .entry)) (now (pending .entry)) (now (pos .entry)) (now (q .entry)) (now (black .entry)) closed) limit .moves)
-        × (lent (driveOf (lent n (now (active .entry)) (now (color .entry)) (now (sent .entry)) (now (received .entry)) (now (pending .entry)) (now (pos .entry)) (now (q .entry)) (now (black .entry)) closed) limit .state .n) (driveOf (lent n (now (active .entry)) (now (color .entry)) (now (sent .entry)) (now (received .entry)) (now (pending .entry)) (now (pos .entry)) (now (q .entry)) (now (black .entry)) closed) limit .state .active) (now (color .exit)) (driveOf (lent n (now (active .entry)) (now (color .entry)) (now (sent .entry)) (now (received .entry)) (now (pending .entry)) (now (pos .entry)) (now (q .entry)) (now (black .entry)) closed) limit .state .sent) (driveOf (lent n (now (active .entry)) (now (color .entry)) (now (sent .entry)) (now (received .entry)) (now (pending .entry)) (now (pos .entry)) (now (q .entry)) (now (black .entry)) closed) limit .state .received) (driveOf (lent n (now (active .entry)) (now (color .entry)) (now (sent .entry)) (now (received .entry)) (now (pending .entry)) (now (pos .entry)) (now (q .entry)) (now (black .entry)) closed) limit .state .pending) (now (pos .exit)) (now (q .exit)) (now (black .exit)) (driveOf (lent n (now (active .entry)) (now (color .entry)) (now (sent .entry)) (now (received .entry)) (now (pending .entry)) (now (pos .entry)) (now (q .entry)) (now (black .entry)) closed) limit .state .closed)
-        ≡ driveOf (lent n (now (active .entry)) (now (color .entry)) (now (sent .entry)) (now (received .entry)) (now (pending .entry)) (now (pos .entry)) (now (q .entry)) (now (black .entry)) closed) limit .state) ⌝ }
+    ensures { λ r. ⌜ DrivenTo (lent n (now (active .entry)) (now (color .entry)) (now (sent .entry)) (now (received .entry)) (now (pending .entry)) (now (pos .entry)) (now (q .entry)) (now (black .entry)) closed) limit r (now (moves .exit))
+        (lent n (now (active .entry)) (now (color .exit)) (now (sent .entry)) (now (received .entry)) (now (pending .entry)) (now (pos .exit)) (now (q .exit)) (now (black .exit)) closed) ⌝ }
 {
     let ring = gathered(
         n,
@@ -221,9 +213,8 @@ pub extern "C" fn tree_write(
     buf: &mut [u8],
     length: &mut usize,
 ) -> u8
-    ensures { λ r. ⌜ (r ≡ writtenNumber (writtenOf (lentTree n root (now (active .entry)) (now (engager .entry)) (now (unacked .entry)) (now (transit .entry)) (now (acks .entry)) sends closed) (now (buf .entry))))
-        × (now (length .exit) ≡ writtenLength (writtenOf (lentTree n root (now (active .entry)) (now (engager .entry)) (now (unacked .entry)) (now (transit .entry)) (now (acks .entry)) sends closed) (now (buf .entry))))
-        × (now (buf .exit) ≡ bufferOf (lentTree n root (now (active .entry)) (now (engager .entry)) (now (unacked .entry)) (now (transit .entry)) (now (acks .entry)) sends closed) (now (buf .entry))) ⌝ }
+    ensures { λ r. ⌜ WrittenAs (lentTree n root (now (active .entry)) (now (engager .entry)) (now (unacked .entry)) (now (transit .entry)) (now (acks .entry)) sends closed)
+        (now (buf .entry)) r (now (length .exit)) (now (buf .exit)) ⌝ }
 {
     let tree = Tree {
         n,
@@ -244,7 +235,7 @@ pub extern "C" fn tree_write(
 // A tree's text read: the number of the answer; the engagers and the root where it is accepted.
 #[no_mangle]
 pub extern "C" fn tree_read(n: usize, s: &[u8], engager: &mut [u8; 16], root: &mut usize) -> u8
-    ensures { λ r. ⌜ (r ≡ codeOf (readOf n (now (s .entry)) .verdict)) × (now (engager .exit) ≡ readOf n (now (s .entry)) .engager) × (now (root .exit) ≡ readOf n (now (s .entry)) .root) ⌝ }
+    ensures { λ r. ⌜ ReadAs n (now (s .entry)) r (now (engager .exit)) (now (root .exit)) ⌝ }
 {
     let f = tree_reader::read(n, s);
     let verdict = f.verdict;

@@ -23,7 +23,8 @@ use Rattle.runs.specs.Runs.{Accepts, Request, acceptedOf, next, runOf}
 use Rattle.ring_runs.proofs.Agreed.{isSend, other-kind}
 use Rattle.ring_runs.proofs.Starts.{init-start, start-init}
 use Rattle.ring_runs.proofs.Steps.{action-rule, rule-action}
-use Rattle.ring_runs.proofs.Trace.{effect-closed, may, run-n, run-sound, same-n, sound-after}
+use Rattle.ring_rules.proofs.Fields.{same-n}
+use Rattle.ring_runs.proofs.Trace.{effect-closed, may, run-n, run-sound, sound-after}
 use Rattle.ring_runs.specs.Agreement.{Reachable, RunTo, Start, Started, initial, later, sendsIn, sendsMade}
 use Rattle.ring_runs.specs.Counts.{isAnnounce, kind, ring}
 use Rattle.ring_runs.specs.EWD998.{Init, Next, Vars, deactivate, environment, initiateProbe, passToken, recvMsg, sendMsg, system}

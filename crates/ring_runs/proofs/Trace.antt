@@ -12,6 +12,7 @@ use Rattle.laws.proofs.Tests.{false-true, or-move}
 use Rattle.ring_rules.proofs.Accepted.{Allowed, Rule, allowed, announces, idles, passes, probes, sends, takes}
 use Rattle.ring_rules.proofs.Keeps.{keeps}
 use Rattle.ring_rules.specs.Rules.{Announce, Idle, Kind, Pass, Probe, Send, Take, Unknown, effect}
+use Rattle.ring_rules.proofs.Fields.{same-n}
 use Rattle.ring_rules.specs.Soundness.{Sound}
 use Rattle.ring_rules.specs.State.{State, activeAt, pendingAt, receivedAt}
 use Rattle.runs.proofs.Runs.{Run, kept, run-keeps, stop, took}
@@ -19,15 +20,6 @@ use Rattle.runs.specs.Runs.{Accepts, Request}
 use Rattle.ring_runs.specs.Counts.{activeAfter, activeNext, announcedIn, isAnnounce, kind, ring, sendTo, sendsTo, takeBy, takesBy}
 
 -- ---- one accepted request
-
-pub same-n : (r : State) (k : Kind) (i j : ℕ) → effect r k i j .n ≡ r .n
-same-n r Send i j = refl
-same-n r Take i j = refl
-same-n r Idle i j = refl
-same-n r Probe i j = refl
-same-n r Pass i j = refl
-same-n r Announce i j = refl
-same-n r Unknown i j = refl
 
 -- a count that rises at i; one that falls there
 rises : (l : List ℕ) (i b : ℕ) → i < length l → getD (set l i (getD l i 0 + 1)) b 0 ≡ getD l b 0 + cond (eqb i b) 1 0

@@ -1,9 +1,10 @@
 use borrow.Author.Needs.{needs}
-use mathlib.Core.Path.{_∙_, _≡_, ap}
+use mathlib.Core.Path.{_∙_, _≡_, ap, sym}
 use mir.Facts.{toZ-ofZ}
 use mir.Syntax.{w64}
 use mir.Val.{SFits}
 use Rattle.ring.specs.View.{driven}
+use Rattle.ring_rules.proofs.Fields.{drive-keeps, unmoved}
 use Rattle.ring_rules.specs.Driver.{Driven, driveOf}
 use Rattle.ring_rules.specs.State.{State}
 use Rattle.exports.specs.Lent.{lent, reasonOf}
@@ -27,12 +28,17 @@ returns c =
     let at-drive = c .before .before .before .before in
     let at-gathered = at-drive .before in
     let start = at-gathered .before .before .before .before .before .before .before .before in
-    let e : driven (at-drive .drive .result) ≡ driveOf
-    (lent (start .args .n) (start .args .active .now) (start .args .color .now) (start .args .sent .now) (start .args .received .now)
-    (start .args .pending .now) (start .args .pos .now) (start .args .q .now) (start .args .black .now) (start .args .closed))
-    (start .args .limit) = at-drive .drive .ensures ∙ ap (λ (s : State). driveOf s (start .args .limit))
-    (at-gathered .gathered .ensures ∙ rw (toZ-ofZ f)) in
-    (c .reason-number .ensures ∙ ap (λ (a : Driven). reasonOf (a .reason)) e, ap (λ (a : Driven). a .moves) e, rw (toZ-ofZ g) (rw (← e)))
+    let r =
+    lent (start .args .n) (start .args .active .now) (start .args .color .now) (start .args .sent .now) (start .args .received .now)
+    (start .args .pending .now) (start .args .pos .now) (start .args .q .now) (start .args .black .now) (start .args .closed) in
+    let e : driven (at-drive .drive .result) ≡ driveOf r (start .args .limit) =
+    at-drive .drive .ensures ∙ ap (λ (s : State). driveOf s (start .args .limit)) (at-gathered .gathered .ensures ∙ rw (toZ-ofZ f)) in
+    let k : unmoved r ≡ unmoved (driveOf r (start .args .limit) .state) = sym (drive-keeps r (start .args .limit)) in (
+      c .reason-number .ensures ∙ ap (λ (a : Driven). reasonOf (a .reason)) e,
+      ap (λ (a : Driven). a .moves) e,
+      rw (toZ-ofZ g)
+          (λ x. lent (k x .0) (k x .1) (e x .state .color) (k x .2) (k x .3) (k x .4) (e x .state .pos) (e x .state .q) (e x .state .black) (k x .5)),
+    )
 
 pub ring-drive-spec : {M : Type 1} → statement M
 ring-drive-spec =
