@@ -46,8 +46,7 @@ module _ (r : State) (s : Sound r) (running : r .closed ≡ false) where
               arith,
               gathered-of r (s .holder) e,
               total-set-in (r .sent) i (sentAt r i + 1) (r .n) in-sent hi,
-              total-set-in (r .sent) i
-                  (sentAt r i + 1) (suc (r .pos)) in-sent (omega arith),
+              total-set-in (r .sent) i (sentAt r i + 1) (suc (r .pos)) in-sent (omega arith),
             )))
     send-safra (positive e) =
         positive

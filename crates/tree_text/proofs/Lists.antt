@@ -51,8 +51,7 @@ module _ (g : ℕ → ℕ → ℕ) (e : List ℕ) (c k : ℕ) (places : length e
       let here : g c (getD (set e c k) c 16) ≡ g c k = ap (g c) (getD-set-same e c k 16 (omega arith)) in
       omega (
         arith,
-        sum-at 16 c (λ i. g i (getD e i 16)) (λ i. g i (getD (set e c k) i 16)) c16
-            (λ j _ ne. ap (g j) (sym (getD-set-other e c j k 16 ne))),
+        sum-at 16 c (λ i. g i (getD e i 16)) (λ i. g i (getD (set e c k) i 16)) c16 (λ j _ ne. ap (g j) (sym (getD-set-other e c j k 16 ne))),
       )
 
 -- how many places have no engager

@@ -20,8 +20,7 @@ returns : tie.Need-returns
 returns c =
     let at-write = c .before .before .before .before in (
       c .written-number .ensures ∙ ap writtenNumber (at-write .write .ensures .0),
-      c .before .written-length .ensures ∙ ap writtenLength
-          (at-write .write .ensures .0),
+      c .before .written-length .ensures ∙ ap writtenLength (at-write .write .ensures .0),
       at-write .write .ensures .1,
     )
 

@@ -27,8 +27,7 @@ put-item-requires-2 c κs =
       arith,
       start .pre,
       item-short (bytes "(end (boards ") (start .args .n) (omega arith) (omega (arith, start .good)),
-      item-short
-          (bytes ") (holder ") (start .args .pos) (omega arith) (omega (arith, start .good)),
+      item-short (bytes ") (holder ") (start .args .pos) (omega arith) (omega (arith, start .good)),
       at-put-item .put-item .kept .0,
       at-put-item .put-item .ensures .0,
     )
@@ -45,10 +44,8 @@ put-item-requires-3 c κs =
       arith,
       start .pre,
       item-short (bytes "(end (boards ") (start .args .n) (omega arith) (omega (arith, start .good)),
-      item-short
-          (bytes ") (holder ") (start .args .pos) (omega arith) (omega (arith, start .good)),
-      item-short (bytes ") (moves ") (start .args .moves)
-          (omega arith) (omega (arith, start .good)),
+      item-short (bytes ") (holder ") (start .args .pos) (omega arith) (omega (arith, start .good)),
+      item-short (bytes ") (moves ") (start .args .moves) (omega arith) (omega (arith, start .good)),
       at-put-item .put-item .kept .0,
       at-put-item .put-item .ensures .0,
       at-put-item2 .put-item2 .kept .0,
@@ -68,10 +65,8 @@ put-item-requires-4 c κs =
       arith,
       start .pre,
       item-short (bytes "(end (boards ") (start .args .n) (omega arith) (omega (arith, start .good)),
-      item-short
-          (bytes ") (holder ") (start .args .pos) (omega arith) (omega (arith, start .good)),
-      item-short (bytes ") (moves ") (start .args .moves)
-          (omega arith) (omega (arith, start .good)),
+      item-short (bytes ") (holder ") (start .args .pos) (omega arith) (omega (arith, start .good)),
+      item-short (bytes ") (moves ") (start .args .moves) (omega arith) (omega (arith, start .good)),
       item-short (bytes ") (flight ") (start .args .flight) (omega arith) (omega (arith, start .good)),
       at-put-item .put-item .kept .0,
       at-put-item .put-item .ensures .0,
@@ -95,10 +90,8 @@ put-item-requires-5 c κs =
       arith,
       start .pre,
       item-short (bytes "(end (boards ") (start .args .n) (omega arith) (omega (arith, start .good)),
-      item-short
-          (bytes ") (holder ") (start .args .pos) (omega arith) (omega (arith, start .good)),
-      item-short (bytes ") (moves ") (start .args .moves)
-          (omega arith) (omega (arith, start .good)),
+      item-short (bytes ") (holder ") (start .args .pos) (omega arith) (omega (arith, start .good)),
+      item-short (bytes ") (moves ") (start .args .moves) (omega arith) (omega (arith, start .good)),
       item-short (bytes ") (flight ") (start .args .flight) (omega arith) (omega (arith, start .good)),
       item-short (bytes ") (black ") (start .args .black) (omega arith) (omega (arith, start .good)),
       at-put-item .put-item .kept .0,
@@ -126,10 +119,8 @@ put-word-requires c κs =
       arith,
       start .pre,
       item-short (bytes "(end (boards ") (start .args .n) (omega arith) (omega (arith, start .good)),
-      item-short
-          (bytes ") (holder ") (start .args .pos) (omega arith) (omega (arith, start .good)),
-      item-short (bytes ") (moves ") (start .args .moves)
-          (omega arith) (omega (arith, start .good)),
+      item-short (bytes ") (holder ") (start .args .pos) (omega arith) (omega (arith, start .good)),
+      item-short (bytes ") (moves ") (start .args .moves) (omega arith) (omega (arith, start .good)),
       item-short (bytes ") (flight ") (start .args .flight) (omega arith) (omega (arith, start .good)),
       item-short (bytes ") (black ") (start .args .black) (omega arith) (omega (arith, start .good)),
       at-put-item .put-item .kept .0,
@@ -185,15 +176,11 @@ returns c =
         item-short (bytes ") (holder ") (a .pos) (omega arith) (omega (arith, start .good)),
         item-length (bytes ") (moves ") (a .moves)
             (bytes ") (flight " ++ (decimal (a .flight) ++ (bytes ") (black " ++ (decimal (a .black) ++ bytes "))\n")))),
-        item-short (bytes ") (moves ")
-            (a .moves) (omega arith) (omega (arith, start .good)),
-        item-length (bytes ") (flight ") (a .flight)
-            (bytes ") (black " ++ (decimal (a .black) ++ bytes "))\n")),
-        item-short (bytes ") (flight ") (a .flight) (omega arith)
-            (omega (arith, start .good)),
+        item-short (bytes ") (moves ") (a .moves) (omega arith) (omega (arith, start .good)),
+        item-length (bytes ") (flight ") (a .flight) (bytes ") (black " ++ (decimal (a .black) ++ bytes "))\n")),
+        item-short (bytes ") (flight ") (a .flight) (omega arith) (omega (arith, start .good)),
         item-length (bytes ") (black ") (a .black) (bytes "))\n"),
-        item-short (bytes ") (black ") (a .black) (omega arith)
-            (omega (arith, start .good)),
+        item-short (bytes ") (black ") (a .black) (omega arith) (omega (arith, start .good)),
       ),
     )
 

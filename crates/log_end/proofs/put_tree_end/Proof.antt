@@ -55,8 +55,7 @@ put-tree-requires c κs =
         at-put-item .put-item .ensures .0,
         at-put-word .put-word .kept .0,
         at-put-word .put-word .ensures .0,
-        tree-short
-            (treeView.state (start .args .tree)) s,
+        tree-short (treeView.state (start .args .tree)) s,
       ),
     )
 
@@ -75,16 +74,14 @@ put-item-requires-2 c κs =
       arith,
       start .pre .0,
       item-short (bytes "(end (boards ") (start .args .tree .n) (omega arith) (search needs),
-      item-short (bytes ") (acks ")
-          (at-acks-in-transit .acks-in-transit .result) (omega arith) (search needs),
+      item-short (bytes ") (acks ") (at-acks-in-transit .acks-in-transit .result) (omega arith) (search needs),
       at-put-item .put-item .kept .0,
       at-put-item .put-item .ensures .0,
       at-put-word .put-word .kept .0,
       at-put-word .put-word .ensures .0,
       at-put-tree .put-tree .kept .0,
       at-put-tree .put-tree .ensures .0,
-      tree-short
-          (treeView.state (start .args .tree)) s,
+      tree-short (treeView.state (start .args .tree)) s,
     )
 
 slice-aggregate-put-word-2 : tie.Need-slice-aggregate-put-word-2
@@ -103,8 +100,7 @@ put-word-requires-2 c κs =
       arith,
       start .pre .0,
       item-short (bytes "(end (boards ") (start .args .tree .n) (omega arith) (search needs),
-      item-short (bytes ") (acks ")
-          (at-acks-in-transit .acks-in-transit .result) (omega arith) (search needs),
+      item-short (bytes ") (acks ") (at-acks-in-transit .acks-in-transit .result) (omega arith) (search needs),
       at-put-item .put-item .kept .0,
       at-put-item .put-item .ensures .0,
       at-put-word .put-word .kept .0,
@@ -145,8 +141,7 @@ returns c =
         length-append (stateText s) last,
         item-length (bytes ") (acks ") n (bytes "))\n"),
         tree-short s (start .pre .1),
-        item-short (bytes "(end (boards ") (a .tree .n) (omega arith)
-            (omega (arith, start .good)),
+        item-short (bytes "(end (boards ") (a .tree .n) (omega arith) (omega (arith, start .good)),
         item-short (bytes ") (acks ") n (omega arith) (search needs),
       ),
     )

@@ -38,8 +38,7 @@ returns-3 c =
     let e = some-cut (a .lines) (a .len) (omega arith) (at-if1 .if1 .left) in
     rw e (
       c .before .before .put-answer .ensures,
-      omega
-          (arith, c .before .before .put-answer .ensures .0, answer-short (a .lines + 1) (Refused NotAForm) (omega arith)),
+      omega (arith, c .before .before .put-answer .ensures .0, answer-short (a .lines + 1) (Refused NotAForm) (omega arith)),
     )
 
 pub put-cut-spec : {M : Type 1} → statement M

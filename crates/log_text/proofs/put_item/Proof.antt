@@ -27,8 +27,7 @@ returns c =
     let u = at-put-word .put-word in
     let v = c .before .before .put-decimal in (
       omega (arith, u .ensures .0, v .ensures .0, length-append (a .word .now) (decimal (a .n))),
-      v .ensures .1 ∙ put-then (a .word .now)
-          (decimal (a .n)) (a .out .now) (a .at) (u .ensures .0) (u .ensures .1),
+      v .ensures .1 ∙ put-then (a .word .now) (decimal (a .n)) (a .out .now) (a .at) (u .ensures .0) (u .ensures .1),
     )
 
 pub put-item-spec : {M : Type 1} → statement M

@@ -41,8 +41,7 @@ put-item-requires-2 c κs =
       arith,
       at-put-item .put-item .kept .0,
       at-put-item .put-item .ensures .0,
-      item-length (bytes "(no ") (a .k)
-          (bytes " " ++ (decimal (numberOf (a .e)) ++ bytes ")\n")),
+      item-length (bytes "(no ") (a .k) (bytes " " ++ (decimal (numberOf (a .e)) ++ bytes ")\n")),
       item-length (bytes " ") (numberOf (a .e)) (bytes ")\n"),
     )
 
@@ -65,8 +64,7 @@ put-word-requires c κs =
       at-put-item .put-item .kept .0,
       at-put-item .put-item .ensures .0,
       item-length (bytes "(no ") (a .k) (bytes " " ++ (decimal (numberOf (a .e)) ++ bytes ")\n")),
-      item-length (bytes " ") (numberOf (a .e))
-          (bytes ")\n"),
+      item-length (bytes " ") (numberOf (a .e)) (bytes ")\n"),
     )
 
 same-length : tie.Need-same-length

@@ -218,8 +218,7 @@ returns-6 c =
           ∙ at-if3 .if3 .left,
       sym (at-has4 .has4 .ensures) ∙ at-if4 .if4 .left,
       sym (at-has5 .has5 .ensures) ∙ at-if5 .if5 .left,
-      sym
-          (at-has6 .has6 .ensures) ∙ c .before .before .if6 .taken,
+      sym (at-has6 .has6 .ensures) ∙ c .before .before .if6 .taken,
     )
     (c .tree-line6 .ensures ∙ ap (λ (a : Args). treeLineOf (madeOf (treeKind 6) a)) (c .before .closed .ensures)))
 
@@ -245,8 +244,7 @@ returns-7 c =
           ∙ at-if3 .if3 .left,
       sym (at-has4 .has4 .ensures) ∙ at-if4 .if4 .left,
       sym (at-has5 .has5 .ensures) ∙ at-if5 .if5 .left,
-      sym
-          (c .before .has6 .ensures) ∙ c .if6 .left,
+      sym (c .before .has6 .ensures) ∙ c .if6 .left,
     ))
 
 pub tree-step-spec : {M : Type 1} → statement M

@@ -63,12 +63,10 @@ returns-8 c =
     (rw (
       ne-eqb _ 1 (c .before .match .rest .0 .0 .0 .0 .0 .1),
       ne-eqb _ 2 (c .before .match .rest .0 .0 .0 .0 .1),
-      ne-eqb _ 3
-          (c .before .match .rest .0 .0 .0 .1),
+      ne-eqb _ 3 (c .before .match .rest .0 .0 .0 .1),
       ne-eqb _ 4 (c .before .match .rest .0 .0 .1),
       ne-eqb _ 5 (c .before .match .rest .0 .1),
-      ne-eqb _ 6
-          (c .before .match .rest .1),
+      ne-eqb _ 6 (c .before .match .rest .1),
     )))
 
 pub step-spec : {M : Type 1} → statement M

@@ -30,8 +30,7 @@ returns-2 c =
     let start = c .before .before .before in
     let a = start .args in (
       rw (ne-eqb _ _ (λ p. c .before .if1 .left (any-default (a .e .now) (a .i) 0 16 (omega arith) ∙ p))) (omega arith),
-      omega
-          (arith, decimal-width 1 (a .i) (omega arith)),
+      omega (arith, decimal-width 1 (a .i) (omega arith)),
     )
 
 pub share-of-spec : {M : Type 1} → statement M

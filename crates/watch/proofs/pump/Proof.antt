@@ -54,8 +54,7 @@ loop-again c =
     let at-loop = at-one-piece .before .before .before .before .before in (
       omega (arith, at-loop .loop .inv .0, at-one-piece .one-piece .kept),
       omega (arith, at-loop .loop .inv .1, at-one-piece .one-piece .kept),
-      omega
-          (arith, at-loop .loop .inv .2, at-one-piece .one-piece .kept),
+      omega (arith, at-loop .loop .inv .2, at-one-piece .one-piece .kept),
       at-one-piece .one-piece .ensures .answers .good,
     )
 
