@@ -1,6 +1,5 @@
 -- The length of an item. Assumes nothing.
 use Prim.Native.Nat.{_<_, _≤_, ℕ}
-use lib.Dec.{T}
 use lib.ListN.{length, length-append}
 use mathlib.Core.List.{List}
 use native.Mathlib.Omega.{arith}

@@ -9,11 +9,10 @@ use native.Mathlib.Omega.{arith}
 use Rattle.log_held.proofs.Held.{held-some}
 use Rattle.log_held.specs.Feed.{stageOf}
 use Rattle.log_held.specs.declared.Log.{Log}
-use Rattle.log_lines.specs.Lines.{part}
 use Rattle.log_rules.proofs.Cuts.{rest-cut, rest-done, rest-full}
 use Rattle.log_rules.specs.Lines.{lineLimit}
 use Rattle.log_rules.specs.Output.{restOf}
-use Rattle.log_rules.specs.Pieces.{PartLine, cut, heldOf, notTold}
+use Rattle.log_rules.specs.Pieces.{PartLine, heldOf, notTold}
 use Rattle.log_text.specs.Wrote.{Wrote}
 use Rattle.refusal.specs.declared.Refusal.the-variants.{NotAForm}
 use Rattle.refusal.specs.declared.Verdict.the-variants.{Refused}

@@ -1,6 +1,5 @@
 -- What the functions over a piece come to. Assumes nothing.
 use Prim.Native.Nat.{_+_, _-_, _<_, _≤_, min, ℕ}
-use lib.Ieee.{size}
 use lib.ListN.{drop, length, length-append, length-drop, length-take, take}
 use mathlib.Core.Bool.{false}
 use mathlib.Core.List.{List, [], _++_, append-assoc}

@@ -1,11 +1,8 @@
 -- Each way out of the two readers, as the code goes. Assumes nothing.
 use Prim.Native.Nat.{_+_, _-_, _<_, _≤_, ℕ}
-use borrow.Fn.PlainCycle.{is}
-use lib.Dec.{T}
 use lib.ListN.{getD}
 use mathlib.Core.List.{List}
 use mathlib.Core.Logic.{_≢_}
-use mathlib.Core.Option.{some}
 use mathlib.Core.Path.{_∙_, _≡_, ap, sym}
 use native.Mathlib.Omega.{arith}
 use Rattle.decimal.specs.Number.{numberOf}

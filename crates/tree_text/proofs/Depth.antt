@@ -1,7 +1,7 @@
 -- No text meets the bound on the depth: each node that is entered is one fewer that can be. Assumes nothing.
 use Prim.Native.Nat.{_+_, _<_, _≤_, suc, zero, ℕ}
 use borrow.Author.Tests.{eq-eqb, ne-eqb}
-use lib.Dec.{T, eqb}
+use lib.Dec.{eqb}
 use lib.ListN.{getD, length, length-set}
 use mathlib.Core.Bool.{cond}
 use mathlib.Core.List.{List}

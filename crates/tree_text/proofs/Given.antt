@@ -4,7 +4,7 @@ use borrow.Author.Tests.{ne-eqb}
 use lib.Dec.{eqb}
 use lib.ListN.{drop, getD, length, length-append, length-set, set}
 use mathlib.Core.Bool.{cond, false}
-use mathlib.Core.List.{List, [], _++_, _∷_, append-assoc, tail}
+use mathlib.Core.List.{List, [], _++_, _∷_, append-assoc}
 use mathlib.Core.Logic.{_≢_}
 use mathlib.Core.Path.{_∙_, _≡_, ap, refl, sym}
 use native.Mathlib.Nat.{add-zero}

@@ -1,7 +1,7 @@
 -- `Lists n k low e e′ t`: t is a list of nodes below n, each of them and its own list as document 01 has it, the nodes of t itself in ascending
 -- order from `low` on and under node k. None of them is in the tree e; with them it becomes e′. Both directions of reading and writing
 -- go by this relation. Assumes nothing.
-use Prim.Native.Nat.{_+_, _<_, _≤_, one, ℕ}
+use Prim.Native.Nat.{_+_, _<_, _≤_, ℕ}
 use borrow.Author.Tests.{eq-eqb, ne-eqb}
 use lib.Dec.{eqb}
 use lib.ListN.{List·getD-eq-default, getD, getD-replicate, length, length-append, length-set, replicate, set}

@@ -8,7 +8,6 @@ use mathlib.Core.Logic.{_≢_, inl, inr}
 use mathlib.Core.Path.{_∙_, _≡_, ap, refl, subst, sym}
 use native.Mathlib.Decide.{ℕ-discrete}
 use native.Mathlib.Omega.{arith}
-use Rattle.decimal.proofs.Cases.{rest}
 use Rattle.decimal.specs.Text.{decimal}
 use Rattle.laws.proofs.Tests.{both, both-true, not-eq, split}
 use Rattle.tree_rules.specs.State.{climb}

@@ -1,7 +1,7 @@
 -- The theorems of specs/Theorems.antt. Assumes nothing.
 use Prim.Native.Nat.{_<_, _≤_, ℕ}
 use borrow.Author.Tests.{eq-eqb, le-leb, le-ltb, leb-true, lt-leb, lt-ltb, ltb-true, ne-eqb}
-use lib.Dec.{T, leb, ltb}
+use lib.Dec.{leb, ltb}
 use lib.ListN.{List·getD-eq-default, drop, drop-of-length-le, getD, length}
 use mathlib.Core.Bool.{_&&_, false}
 use mathlib.Core.List.{List, [], _++_, _∷_}

@@ -1,6 +1,5 @@
 -- The text of a tree is a list of its nodes: with them the tree comes about, node by node. Assumes nothing.
 use Prim.Native.Nat.{_+_, _<_, _≤_, suc, zero, ℕ}
-use lib.Dec.{T}
 use lib.ListN.{List·getD-eq-default, getD, length, length-set, set}
 use lib.Seq.{ext-getD, getD-set-other, getD-set-same}
 use mathlib.Core.Bool.{false}

@@ -57,8 +57,7 @@ go-on-requires c κs =
         most = u .most;
         inside = f .inside;
         places = omega (arith, p .0 .places, at-hold2 .hold2 .kept);
-        room = omega
-            (arith, p .1, u .short, f .inside, at-answer-held .answer-held .kept);
+        room = omega (arith, p .1, u .short, f .inside, at-answer-held .answer-held .kept);
       },
     )
 

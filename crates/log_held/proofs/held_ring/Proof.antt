@@ -47,8 +47,7 @@ ring-piece-requires c κs =
       few = p .1 .1;
       most = omega (arith, p .0 .under);
       inside = omega arith;
-      room = omega
-          (arith, p .0 .room, length-take (start .args .len) (start .args .line .now));
+      room = omega (arith, p .0 .room, length-take (start .args .len) (start .args .line .now));
     }
 
 same-length-2 : tie.Need-same-length-2

@@ -45,8 +45,7 @@ tree-piece-requires c κs =
       sound = p .1;
       most = omega (arith, p .0 .under);
       inside = omega arith;
-      room = omega
-          (arith, p .0 .room, length-take (start .args .len) (start .args .line .now));
+      room = omega (arith, p .0 .room, length-take (start .args .len) (start .args .line .now));
     }
 
 same-length-2 : tie.Need-same-length-2

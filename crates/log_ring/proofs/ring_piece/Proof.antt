@@ -13,8 +13,7 @@ run-lines-requires c κs =
     let at-rest-of = c .before .before .before .before .before .before .before .before .before .before .before in
     let start = at-rest-of .before .before .before in
     let p = start .pre in record {
-      sound = subst⁻¹ Sound (at-rest-of .rest-of .ensures)
-          (p .sound);
+      sound = subst⁻¹ Sound (at-rest-of .rest-of .ensures) (p .sound);
       few = p .few;
       most = p .most;
       inside = p .inside;

@@ -31,8 +31,7 @@ returns c =
     let start = at-count .before .before .before .before in
     let most = length (start .args .piece .now) in
     let f : SFits w64 (start .args .got) = sfits-of (start .fits .got .sfits) in
-    let n : at-count .count .result ≡ clamped (start .args .got) most =
-    at-count .count .ensures .1 ∙ ap (λ (z : ℤ). clamped z most) (toZ-ofZ f) in
+    let n : at-count .count .result ≡ clamped (start .args .got) most = at-count .count .ensures .1 ∙ ap (λ (z : ℤ). clamped z most) (toZ-ofZ f) in
     record { answers = rw (← n) (at-feed .feed .ensures); more = rw (toZ-ofZ f); failed = rw (toZ-ofZ f) }
 
 pub answer-spec : {M : Type 1} → statement M
