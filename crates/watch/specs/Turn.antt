@@ -26,7 +26,7 @@ pub record Answered (l : Log) (piece : List ℕ) (got : ℤ) (s : Step) (line li
   pub more : s .more ≡ (ltZ (pos 0) got && ltb (s .log .lines) lineLimit)
   pub failed : s .failed ≡ ltZ got (pos 0)
 
--- a turn answers the bytes of some answer of read, and goes on or fails as this says, or stops because a write failed
+-- a turn answers the bytes of some answer of read, and goes on only if there were any and nothing failed
 pub record Turned (l : Log) (piece : List ℕ) (s : Step) (line line′ out out′ : List ℕ) : Type 0 where
   pub got : ℤ
   pub answers : Answers l (clamped got (length piece)) piece s line line′ out out′
