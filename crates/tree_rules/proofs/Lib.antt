@@ -9,4 +9,5 @@ pub mod Bounds
 pub mod Quiet
 pub mod Start
 pub mod Answers
+pub mod Fields
 pub mod Theorems

@@ -21,7 +21,6 @@ use Rattle.tree_rules.specs.Soundness.{Open, Resting, Sound}
 use Rattle.tree_rules.specs.State.{State, activeAt, engagerAt}
 use Rattle.tree_runs.proofs.Change.{null-engaged}
 use Rattle.tree_runs.proofs.Steps.{action-rule, of-signal, rule-action, signal-of}
-use Rattle.tree_runs.proofs.Trace.{same-n, same-root}
 use Rattle.tree_runs.specs.Agreement.{AcceptsStep, Answered, SendAllowed, at-limit, matched, rootOf, shown, shownAfter, to-oneself}
 use Rattle.tree_runs.specs.DijkstraScholten.{Addr, SendDAT, SignalTermination, Step, Systems, deactivate, disengage, receive-ACK, receive-DAT, send-DAT}
 use Rattle.tree_runs.specs.View.{Action, is-ack, is-announce, is-idle, is-leave, is-send, is-take, systemsOf}
@@ -38,22 +37,6 @@ isSend Unknown = false
 
 pub other-kind {ℓ} : {A : Type ℓ} {k : Kind} → Send ≡ k → isSend k ≡ false → A
 other-kind e z = absurd (false-true (sym z ∙ ap isSend (sym e)))
-
-pub nodes-kept : (t : State) (k i j : ℕ) → stepOf t k i j .state .n ≡ t .n
-unfolding answerOf
-nodes-kept t k i j = go (verdictOf t (kindOf k) i j)
-  where
-    go : (v : Verdict) → settle v (effect t (kindOf k) i j) t .n ≡ t .n
-    go Accepted = same-n t (kindOf k) i j
-    go (Refused e) = refl
-
-pub root-kept : (t : State) (k i j : ℕ) → stepOf t k i j .state .root ≡ t .root
-unfolding answerOf
-root-kept t k i j = go (verdictOf t (kindOf k) i j)
-  where
-    go : (v : Verdict) → settle v (effect t (kindOf k) i j) t .root ≡ t .root
-    go Accepted = same-root t (kindOf k) i j
-    go (Refused e) = refl
 
 module _ (t : State) (ok : Sound t) where
   abbrev a0 : Addr (t .n)

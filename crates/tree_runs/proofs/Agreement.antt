@@ -3,7 +3,8 @@ use Prim.Native.Nat.{ℕ}
 use Rattle.tree_rules.proofs.Start.{fits}
 use Rattle.tree_rules.specs.Soundness.{Sound}
 use Rattle.tree_rules.specs.State.{State}
-use Rattle.tree_runs.proofs.Agreed.{accepted-rule, accepted-step, announce-signal, nodes-kept, refused-same, root-kept, rule-accepted, signal-last, step-answered}
+use Rattle.tree_rules.proofs.Fields.{nodes-kept, root-kept}
+use Rattle.tree_runs.proofs.Agreed.{accepted-rule, accepted-step, announce-signal, refused-same, rule-accepted, signal-last, step-answered}
 use Rattle.tree_runs.proofs.Behaviours.{reachable-run, run-reachable}
 use Rattle.tree_runs.proofs.Starts.{initial-start, start-accepted, start-initial}
 use Rattle.tree_runs.proofs.Sums.{balance-of, null-of-sound, safe-of, tree-of}

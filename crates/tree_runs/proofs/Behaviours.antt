@@ -21,7 +21,8 @@ use Rattle.tree_rules.specs.State.{State}
 use Rattle.tree_runs.proofs.Agreed.{isSend, other-kind}
 use Rattle.tree_runs.proofs.Starts.{initial-start, start-accepted, start-initial}
 use Rattle.tree_runs.proofs.Steps.{action-rule, rule-action}
-use Rattle.tree_runs.proofs.Trace.{closed-step, same-n, same-root}
+use Rattle.tree_rules.proofs.Fields.{same-n, same-root}
+use Rattle.tree_runs.proofs.Trace.{closed-step}
 use Rattle.tree_runs.proofs.Traced.{may, sound-after, traced}
 use Rattle.tree_runs.specs.Agreement.{Reachable, RunTo, SendAllowed, ToAnother, initial, later, rootOf, sendsIn}
 use Rattle.tree_runs.specs.Counts.{isAnnounce, kind, tree}

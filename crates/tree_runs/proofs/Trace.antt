@@ -121,25 +121,7 @@ module _ (t : State) (f : Facts t) where
       omega (arith, sum-raised 16 (t .acks) (engagerAt t i) (in-acks t f (engagerAt t i) e16) e16)
   acks-step o Announce i j r = refl
 
--- ---- what no step changes, and what closes the run
-
-pub same-n : (t : State) (k : Kind) (i j : ℕ) → effect t k i j .n ≡ t .n
-same-n t Send i j = refl
-same-n t Take i j = take-cases (λ (s : State). s .n ≡ t .n) t i j (λ _. refl) (λ _. refl)
-same-n t Idle i j = refl
-same-n t Ack i j = refl
-same-n t Leave i j = refl
-same-n t Announce i j = refl
-same-n t Unknown i j = refl
-
-pub same-root : (t : State) (k : Kind) (i j : ℕ) → effect t k i j .root ≡ t .root
-same-root t Send i j = refl
-same-root t Take i j = take-cases (λ (s : State). s .root ≡ t .root) t i j (λ _. refl) (λ _. refl)
-same-root t Idle i j = refl
-same-root t Ack i j = refl
-same-root t Leave i j = refl
-same-root t Announce i j = refl
-same-root t Unknown i j = refl
+-- ---- what closes the run
 
 pub closed-step : (t : State) (k : Kind) (i j : ℕ) → effect t k i j .closed ≡ (isAnnounce k || t .closed)
 closed-step t Send i j = refl

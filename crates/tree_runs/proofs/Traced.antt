@@ -15,7 +15,8 @@ use Rattle.tree_rules.proofs.Keeps.{keeps}
 use Rattle.tree_rules.specs.Soundness.{Sound}
 use Rattle.tree_rules.specs.State.{State, activeAt, engaged, transitAt}
 use Rattle.tree_rules.specs.Termination.{Quiet, acksTotal, engagedOthers, isOther, stepsLeft}
-use Rattle.tree_runs.proofs.Trace.{acks-step, active-step, closed-step, engaged-step, same-n, same-root, transit-step}
+use Rattle.tree_rules.proofs.Fields.{same-n, same-root}
+use Rattle.tree_runs.proofs.Trace.{acks-step, active-step, closed-step, engaged-step, transit-step}
 use Rattle.tree_runs.specs.Counts.{QuietBy, acksBy, activeAfter, announcedIn, engagedAfter, engagedBy, isAnnounce, kind, receivedIn, repliesIn, sendsBetween, takesBetween, transitBy, tree}
 use Rattle.tree_runs.specs.WholeRun.{stepsBy}
 
