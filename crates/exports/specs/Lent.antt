@@ -34,8 +34,8 @@ reasonOf Spent = 2
 reasonOf (Stopped e) = numberOf e
 
 -- a step of the ring r in place: the number of its answer, and the ring that lies in the fields afterwards
-abbrev pub Stepped : State → ℕ → ℕ → ℕ → ℕ → State → Type 0
-Stepped r kind i j number after = (number ≡ codeOf (stepOf r kind i j .verdict)) × (after ≡ stepOf r kind i j .state)
+abbrev pub SteppedTo : State → ℕ → ℕ → ℕ → ℕ → State → Type 0
+SteppedTo r kind i j number after = (number ≡ codeOf (stepOf r kind i j .verdict)) × (after ≡ stepOf r kind i j .state)
 
 -- the driver likewise: the number of its reason, its moves, and the ring afterwards
 abbrev pub DrivenTo : State → ℕ → ℕ → ℕ → State → Type 0

@@ -6,7 +6,7 @@ use tree_text::Written;
 ghost use mathlib.Core.Path.{_≡_};
 ghost use Rattle.ring_rules.specs.Soundness.{soundTest};
 ghost use Rattle.ring.specs.View.{state};
-ghost use Rattle.exports.specs.Lent.{lent, reasonOf, Stepped, DrivenTo};
+ghost use Rattle.exports.specs.Lent.{lent, reasonOf, SteppedTo, DrivenTo};
 ghost use Rattle.exports.specs.LentTree.{lentTree, writtenNumber, writtenLength, WrittenAs, ReadAs};
 
 // The ring that lies in lent fields.
@@ -55,7 +55,7 @@ pub extern "C" fn ring_step(
     i: usize,
     j: usize,
 ) -> u8
-    ensures { λ r. ⌜ Stepped (lent n (now (active .entry)) (now (color .entry)) (now (sent .entry)) (now (received .entry)) (now (pending .entry)) (now (pos .entry)) (now (q .entry)) (now (black .entry)) (now (closed .entry))) kind i j r
+    ensures { λ r. ⌜ SteppedTo (lent n (now (active .entry)) (now (color .entry)) (now (sent .entry)) (now (received .entry)) (now (pending .entry)) (now (pos .entry)) (now (q .entry)) (now (black .entry)) (now (closed .entry))) kind i j r
         (lent n (now (active .exit)) (now (color .exit)) (now (sent .exit)) (now (received .exit)) (now (pending .exit)) (now (pos .exit)) (now (q .exit)) (now (black .exit)) (now (closed .exit))) ⌝ }
 {
     let ring = gathered(

@@ -5,7 +5,7 @@ use lib.Dec.{ltb}
 use lib.IntN.{pos, ℤ}
 use lib.ListN.{length, take}
 use lib.Signed.{ltZ}
-use mathlib.Core.Bool.{_&&_, false, true}
+use mathlib.Core.Bool.{Bool, _&&_, _||_, not}
 use mathlib.Core.List.{List}
 use mathlib.Core.Path.{_≡_}
 use Rattle.log_held.specs.Feed.{FedFrom, stageOf}
@@ -26,8 +26,10 @@ pub record Answered (l : Log) (piece : List ℕ) (got : ℤ) (s : Step) (line li
   pub more : s .more ≡ (ltZ (pos 0) got && ltb (s .log .lines) lineLimit)
   pub failed : s .failed ≡ ltZ got (pos 0)
 
--- a turn answers the bytes of some answer of read, and goes on only if there were any and nothing failed
+-- a turn: the bytes of some answer of read are answered, and it goes on, or has failed, as `Answered` says, unless the write failed
 pub record Turned (l : Log) (piece : List ℕ) (s : Step) (line line′ out out′ : List ℕ) : Type 0 where
   pub got : ℤ
   pub answers : Answers l (clamped got (length piece)) piece s line line′ out out′
-  pub more : s .more ≡ true → (ltZ (pos 0) got ≡ true) × (s .failed ≡ false)
+  pub written : Bool
+  pub more : s .more ≡ ((ltZ (pos 0) got && ltb (s .log .lines) lineLimit) && written)
+  pub failed : s .failed ≡ (ltZ got (pos 0) || not written)

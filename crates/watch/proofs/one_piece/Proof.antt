@@ -1,22 +1,13 @@
 use borrow.Author.Needs.{needs, sfits-of}
-use borrow.Author.Tests.{le-ltb}
-use lib.IntN.{negsuc, pos, ℤ}
 use lib.Seq.{length-take-le}
-use lib.Signed.{ltZ}
-use mathlib.Core.Bool.{_||_, false, not, true}
-use mathlib.Core.Path.{_∙_, _≡_, sym}
+use mathlib.Core.Bool.{_&&_, _||_, not}
+use mathlib.Core.Path.{sym}
 use mir.Facts.{toZ-ofZ}
 use mir.Syntax.{w64}
 use mir.Val.{SFits}
 use native.Mathlib.Omega.{arith}
-use Rattle.laws.proofs.Tests.{both, false-true}
 use Rattle.watch.proofs.one_piece.Statement.{statement}
 use Rattle.watch.proofs.one_piece.Tie as tie
-
--- a number above 0 is not below 0
-not-below : (z : ℤ) → ltZ (pos 0) z ≡ true → ltZ z (pos 0) ≡ false
-not-below (pos k) e = le-ltb k 0 (omega arith)
-not-below (negsuc k) e = absurd (false-true e)
 
 read-requires : tie.Need-read-requires
 read-requires c κs = search needs
@@ -55,11 +46,9 @@ returns c =
     record {
       got = at-read .read .result;
       answers = rw (toZ-ofZ f) at (done .answers);
-      more = λ m.
-          let p = both _ _ m in
-          let above = both _ _ (sym (rw (toZ-ofZ f) at (done .more)) ∙ p .0) .0 in
-          let failed = rw (toZ-ofZ f) at (done .failed) in
-          (above, λ x. (failed ∙ not-below (at-read .read .result) above) x || not (p .1 x));
+      written = c .before .before .before .write-all .result;
+      more = λ x. (rw (toZ-ofZ f) at (done .more)) x && c .before .before .before .write-all .result;
+      failed = λ x. (rw (toZ-ofZ f) at (done .failed)) x || not (c .before .before .before .write-all .result);
     }
 
 pub one-piece-spec : {M : Type 1} → statement M
