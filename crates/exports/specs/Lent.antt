@@ -4,12 +4,10 @@ use lib.IntN.{ℤ}
 use mathlib.Core.Bool.{Bool}
 use mathlib.Core.List.{List}
 use mathlib.Core.Path.{_≡_}
-use Rattle.refusal.specs.Table.{codeOf, numberOf}
+use Rattle.refusal.specs.Table.{codeOf}
 use Rattle.ring_rules.specs.Answers.{stepOf}
-use Rattle.ring_rules.specs.Driver.{driveOf}
+use Rattle.ring_rules.specs.Driver.{driveOf, reasonNumber}
 use Rattle.ring_rules.specs.State.{State}
-use Rattle.ring_rules.specs.declared.Reason.{Reason}
-use Rattle.ring_rules.specs.declared.Reason.the-variants.{Conclusive, Spent, Stopped, Waiting}
 
 abbrev pub lent : ℕ → List Bool → List ℕ → List ℕ → List ℕ → List ℕ → ℕ → ℤ → Bool → Bool → State
 lent n active color sent received pending at q black closed =
@@ -26,13 +24,6 @@ lent n active color sent received pending at q black closed =
       closed = closed;
     }
 
--- the number of a driver's reason
-abbrev pub reasonOf : Reason → ℕ
-reasonOf Conclusive = 0
-reasonOf Waiting = 1
-reasonOf Spent = 2
-reasonOf (Stopped e) = numberOf e
-
 -- a step of the ring r in place: the number of its answer, and the ring that lies in the fields afterwards
 abbrev pub SteppedTo : State → ℕ → ℕ → ℕ → ℕ → State → Type 0
 SteppedTo r kind i j number after = (number ≡ codeOf (stepOf r kind i j .verdict)) × (after ≡ stepOf r kind i j .state)
@@ -40,4 +31,4 @@ SteppedTo r kind i j number after = (number ≡ codeOf (stepOf r kind i j .verdi
 -- the driver likewise: the number of its reason, its moves, and the ring afterwards
 abbrev pub DrivenTo : State → ℕ → ℕ → ℕ → State → Type 0
 DrivenTo r limit number moves after =
-    (number ≡ reasonOf (driveOf r limit .reason)) × (moves ≡ driveOf r limit .moves) × (after ≡ driveOf r limit .state)
+    (number ≡ reasonNumber (driveOf r limit .reason)) × (moves ≡ driveOf r limit .moves) × (after ≡ driveOf r limit .state)

@@ -3,10 +3,10 @@ use Prim.Native.Nat.{ℕ}
 use mathlib.Core.Bool.{Bool}
 use mathlib.Core.List.{List}
 use mathlib.Core.Path.{_≡_}
-use Rattle.refusal.specs.Table.{codeOf, numberOf}
+use Rattle.refusal.specs.Table.{codeOf}
 use Rattle.tree_rules.specs.State.{State}
 use Rattle.tree_text.specs.Read.{readOf}
-use Rattle.tree_text.specs.Write.{bufferOf, writtenOf}
+use Rattle.tree_text.specs.Write.{bufferOf, writtenNumber, writtenOf}
 use Rattle.tree_text.specs.declared.Written.{Written}
 use Rattle.tree_text.specs.declared.Written.the-variants.{Length, NotWritten}
 
@@ -23,10 +23,6 @@ lentTree n root active engager unacked transit acks sends closed =
       sends = sends;
       closed = closed;
     }
-
-abbrev pub writtenNumber : Written → ℕ
-writtenNumber (Length k) = 0
-writtenNumber (NotWritten e) = numberOf e
 
 abbrev pub writtenLength : Written → ℕ
 writtenLength (Length k) = k

@@ -1,13 +1,12 @@
 // What other languages call: a ring lent field by field, stepped or driven in place; the text of a tree lent so, written and read.
 use ring::Ring;
-use ring_rules::Reason;
 use tree::Tree;
 use tree_text::Written;
 ghost use mathlib.Core.Path.{_≡_};
 ghost use Rattle.ring_rules.specs.Soundness.{soundTest};
 ghost use Rattle.ring.specs.View.{state};
-ghost use Rattle.exports.specs.Lent.{lent, reasonOf, SteppedTo, DrivenTo};
-ghost use Rattle.exports.specs.LentTree.{lentTree, writtenNumber, writtenLength, WrittenAs, ReadAs};
+ghost use Rattle.exports.specs.Lent.{lent, SteppedTo, DrivenTo};
+ghost use Rattle.exports.specs.LentTree.{lentTree, writtenLength, WrittenAs, ReadAs};
 
 // The ring that lies in lent fields.
 fn gathered(
@@ -122,18 +121,6 @@ pub extern "C" fn ring_is_sound(
     sound
 }
 
-// 0 for conclusive, 1 for waiting, 2 for spent, and else the number of the refusal.
-fn reason_number(e: Reason) -> u8
-    ensures { λ r. ⌜ r ≡ reasonOf e ⌝ }
-{
-    match e {
-        Reason::Conclusive => 0,
-        Reason::Waiting => 1,
-        Reason::Spent => 2,
-        Reason::Stopped(r) => refusal::number(r),
-    }
-}
-
 // The driver in place: the number of its reason; `moves` is how many it made.
 #[no_mangle]
 pub extern "C" fn ring_drive(
@@ -176,17 +163,7 @@ pub extern "C" fn ring_drive(
     *q = q_now;
     *black = next.black;
     *moves = made;
-    reason_number(reason)
-}
-
-// The number of the writer's answer, 0 where the text is written.
-fn written_number(w: Written) -> u8
-    ensures { λ r. ⌜ r ≡ writtenNumber w ⌝ }
-{
-    match w {
-        Written::Length(_) => 0,
-        Written::NotWritten(e) => refusal::number(e),
-    }
+    ring_rules::reason_number(reason)
 }
 
 fn written_length(w: Written) -> usize
@@ -229,7 +206,7 @@ pub extern "C" fn tree_write(
     };
     let w = tree_writer::write(tree, buf);
     *length = written_length(w);
-    written_number(w)
+    tree_text::written_number(w)
 }
 
 // A tree's text read: the number of the answer; the engagers and the root where it is accepted.

@@ -28,7 +28,7 @@ use Rattle.ring_runs.proofs.Trace.{may}
 use Rattle.ring_runs.proofs.WholeRun.{whole-runs}
 use Rattle.ring_runs.specs.Counts.{Announced, Unannounced, activeBy, kind, ring, transitBy}
 use Rattle.instances.specs.Ring.{Instances, QuietPoint, Unreached, Worked, first, handed, moves, requests, startFlags}
-use Rattle.ring_runs.specs.StarredRuns.{announce, numbers, probe}
+use Rattle.ring_runs.specs.Requests.{announce, numbers, probe}
 
 -- ---- one node alone never sends
 

@@ -29,7 +29,7 @@ use Rattle.tree_runs.proofs.WholeRun.{whole-runs}
 use Rattle.tree_runs.specs.Counts.{Announced, Unannounced, activeBy, kind, transitBy, tree}
 use Rattle.tree_runs.specs.DijkstraScholten.{Addr}
 use Rattle.instances.specs.Tree.{Instances, QuietPoint, Unreached, Worked, first, handed, requests, steps}
-use Rattle.tree_runs.specs.StarredRuns.{announce, numbers}
+use Rattle.tree_runs.specs.Requests.{announce, numbers}
 use Rattle.tree_runs.specs.WholeRun.{stepsBy}
 
 -- ---- one node alone never sends

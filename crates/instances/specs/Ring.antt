@@ -14,7 +14,7 @@ use Rattle.runs.specs.Runs.{Accepts, Request, acceptedOf, runOf}
 use Rattle.ring_runs.specs.Agreement.{Reachable}
 use Rattle.ring_runs.specs.Counts.{Announced, QuietBy, Unannounced, ring}
 use Rattle.ring_runs.specs.EWD998.{Init, terminationDetected}
-use Rattle.ring_runs.specs.StarredRuns.{announce, idle, numbers, pass, probe, send, take}
+use Rattle.ring_runs.specs.Requests.{announce, idle, numbers, pass, probe, send, take}
 use Rattle.ring_runs.specs.View.{varsOf}
 use Rattle.ring_runs.specs.WholeRun.{Countdown}
 

@@ -13,7 +13,7 @@ use Rattle.tree_rules.specs.State.{State}
 use Rattle.tree_runs.specs.Agreement.{Reachable}
 use Rattle.tree_runs.specs.Counts.{Announced, QuietBy, Unannounced, tree}
 use Rattle.tree_runs.specs.DijkstraScholten.{Addr, Initial, SignalTermination}
-use Rattle.tree_runs.specs.StarredRuns.{ack, announce, idle, leave, numbers, send, take}
+use Rattle.tree_runs.specs.Requests.{ack, announce, idle, leave, numbers, send, take}
 use Rattle.tree_runs.specs.View.{systemsOf}
 use Rattle.tree_runs.specs.WholeRun.{Counted, stepsBy}
 

@@ -9,7 +9,8 @@ use Rattle.tree_rules.specs.Soundness.{balanceTest, chainTest, closedTest, enga
 use Rattle.tree_rules.specs.Start.{blank, firstState, startOf, startVerdict}
 use Rattle.tree_rules.specs.State.{children, climb, messagesFrom}
 use Rattle.tree_rules.specs.Termination.{acksTotal, engagedOthers}
-use Rattle.tree_runs.specs.StarredRuns.{allPass, numbers, passes, starred}
+use Rattle.tree_runs.specs.Requests.{numbers}
+use Rattle.tree_runs.specs.StarredRuns.{allPass, passes, starred}
 
 pub all-starred : allPass starred ≡ true
 unfolding starred numbers passes allPass runOf acceptedOf sumTo countTo messagesFrom children climb mayLeave conclusive shapeTest rangeTest engagerTest chainTest balanceTest restTest pairTest placeTest limitTest closedTest soundTest verdictOf firstState blank startVerdict startOf acksTotal engagedOthers

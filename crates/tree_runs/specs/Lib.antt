@@ -3,4 +3,5 @@ pub mod WholeRun
 pub mod DijkstraScholten
 pub mod View
 pub mod Agreement
+pub mod Requests
 pub mod StarredRuns

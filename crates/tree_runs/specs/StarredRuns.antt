@@ -7,11 +7,12 @@ use mathlib.Core.Bool.{Bool, _&&_, false, not, true}
 use mathlib.Core.List.{List, [], _∷_}
 use Rattle.laws.specs.Places.{allTo}
 use Rattle.refusal.specs.Table.{codeOf}
-use Rattle.runs.specs.Runs.{Request, acceptedOf, next, runOf}
+use Rattle.runs.specs.Runs.{Request, acceptedOf, runOf}
 use Rattle.tree_rules.specs.Start.{startOf, startVerdict}
 use Rattle.tree_rules.specs.State.{State, activeAt, messagesFrom}
 use Rattle.tree_rules.specs.Termination.{acksTotal, engagedOthers}
 use Rattle.tree_runs.specs.Counts.{tree}
+use Rattle.tree_runs.specs.Requests.{ack, announce, idle, leave, numbers, send, take}
 
 -- a run to check
 pub data Case : Type 0 where
@@ -22,26 +23,6 @@ pub data Case : Type 0 where
   -- after the start and the requests, all of them accepted, the tree is quiet, with so many acknowledgements under way and so many
   -- engaged nodes besides the root
   quietWith : ℕ → ℕ → List Request → ℕ → ℕ → Case
-
--- ---- the requests
-
-abbrev pub send : ℕ → ℕ → Request
-send i j = record { kind = 1; i = i; j = j }
-
-abbrev pub take : ℕ → ℕ → Request
-take i k = record { kind = 2; i = i; j = k }
-
-abbrev pub idle : ℕ → Request
-idle i = record { kind = 3; i = i; j = 0 }
-
-abbrev pub ack : ℕ → Request
-ack i = record { kind = 4; i = i; j = 0 }
-
-abbrev pub leave : ℕ → Request
-leave i = record { kind = 5; i = i; j = 0 }
-
-abbrev pub announce : Request
-announce = record { kind = 6; i = 0; j = 0 }
 
 -- ---- the table
 
@@ -67,10 +48,6 @@ starred =
     ∷ []
 
 -- ---- what each case asks of the definitions
-
-unfoldable pub numbers : State → List Request → List ℕ
-numbers t [] = []
-numbers t (x ∷ xs) = codeOf (tree .verdict t x) ∷ numbers (next tree t x) xs
 
 abbrev pub sameList : List ℕ → List ℕ → Bool
 sameList [] [] = true

@@ -5,7 +5,7 @@ use lib.ListN.{length}
 use mathlib.Core.Bool.{not}
 use mathlib.Core.List.{List, [], _∷_}
 use Rattle.decimal.specs.Text.{put}
-use Rattle.refusal.specs.Table.{Row, _⟶_, firstOf, settle}
+use Rattle.refusal.specs.Table.{Row, _⟶_, firstOf, numberOf, settle}
 use Rattle.refusal.specs.declared.Refusal.the-variants.{ShortBuffer, Unsound}
 use Rattle.refusal.specs.declared.Verdict.{Verdict}
 use Rattle.refusal.specs.declared.Verdict.the-variants.{Accepted, Refused}
@@ -35,3 +35,8 @@ writtenOf t b = told (writeVerdict t b) (length (stateText t))
 -- the buffer: the text from its first byte on, "Bytes past the written text keep their values"; a refusal leaves every byte
 unfoldable pub bufferOf : State → List ℕ → List ℕ
 bufferOf t b = settle (writeVerdict t b) (put b 0 (stateText t)) b
+
+-- the number of the answer, 0 where the text is written
+abbrev pub writtenNumber : Written → ℕ
+writtenNumber (Length k) = 0
+writtenNumber (NotWritten e) = numberOf e

@@ -1,6 +1,8 @@
 // The text of the engagement tree: definitions in specs/, their theorems in proofs/. This file declares what the writer and the reader answer.
 use refusal::Refusal;
 use refusal::Verdict;
+ghost use mathlib.Core.Path.{_≡_};
+ghost use Rattle.tree_text.specs.Write.{writtenNumber};
 
 // The length of the text that was written, or why none was.
 pub enum Written {
@@ -21,4 +23,14 @@ pub struct Found {
     pub verdict: Verdict,
     pub engager: [u8; 16],
     pub root: usize,
+}
+
+// The number of the writer's answer, 0 where the text is written.
+pub fn written_number(w: Written) -> u8
+    ensures { λ r. ⌜ r ≡ writtenNumber w ⌝ }
+{
+    match w {
+        Written::Length(_) => 0,
+        Written::NotWritten(e) => refusal::number(e),
+    }
 }

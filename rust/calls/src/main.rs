@@ -156,9 +156,9 @@ fn same_drive(seed: u64, ring: &Ring, limit: u32) {
 
 fn reason_number(reason: Reason) -> u8 {
     match reason {
-        Reason::Conclusive => 0,
-        Reason::Waiting => 1,
-        Reason::Spent => 2,
+        Reason::Conclusive => 100,
+        Reason::Waiting => 101,
+        Reason::Spent => 102,
     }
 }
 

@@ -113,7 +113,7 @@ pub fn is_sound(ring: &Ring) -> bool {
     }
 }
 
-/// The number of the driver's reason (0 conclusive, 1 waiting, 2 spent, else a refusal) and its count of moves.
+/// The number of the driver's reason (100 conclusive, 101 waiting, 102 spent, else a refusal) and its count of moves.
 pub fn drive(ring: &mut Ring, limit: u32) -> (u8, u32) {
     let mut moves = 0;
     let reason = unsafe {

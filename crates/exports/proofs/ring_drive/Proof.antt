@@ -5,9 +5,9 @@ use mir.Syntax.{w64}
 use mir.Val.{SFits}
 use Rattle.ring.specs.View.{driven}
 use Rattle.ring_rules.proofs.Fields.{drive-keeps, unmoved}
-use Rattle.ring_rules.specs.Driver.{Driven, driveOf}
+use Rattle.ring_rules.specs.Driver.{Driven, driveOf, reasonNumber}
 use Rattle.ring_rules.specs.State.{State}
-use Rattle.exports.specs.Lent.{lent, reasonOf}
+use Rattle.exports.specs.Lent.{lent}
 use Rattle.exports.proofs.ring_drive.Statement.{statement}
 use Rattle.exports.proofs.ring_drive.Tie as tie
 
@@ -34,7 +34,7 @@ returns c =
     let e : driven (at-drive .drive .result) ≡ driveOf r (start .args .limit) =
     at-drive .drive .ensures ∙ ap (λ (s : State). driveOf s (start .args .limit)) (at-gathered .gathered .ensures ∙ rw (toZ-ofZ f)) in
     let k : unmoved r ≡ unmoved (driveOf r (start .args .limit) .state) = sym (drive-keeps r (start .args .limit)) in (
-      c .reason-number .ensures ∙ ap (λ (a : Driven). reasonOf (a .reason)) e,
+      c .reason-number .ensures ∙ ap (λ (a : Driven). reasonNumber (a .reason)) e,
       ap (λ (a : Driven). a .moves) e,
       rw (toZ-ofZ g)
           (λ x. lent (k x .0) (k x .1) (e x .state .color) (k x .2) (k x .3) (k x .4) (e x .state .pos) (e x .state .q) (e x .state .black) (k x .5)),

@@ -1,6 +1,7 @@
 use borrow.Author.Needs.{needs}
 use mathlib.Core.Path.{_∙_, ap}
-use Rattle.exports.specs.LentTree.{writtenLength, writtenNumber}
+use Rattle.tree_text.specs.Write.{writtenNumber}
+use Rattle.exports.specs.LentTree.{writtenLength}
 use Rattle.exports.proofs.tree_write.Statement.{statement}
 use Rattle.exports.proofs.tree_write.Tie as tie
 
