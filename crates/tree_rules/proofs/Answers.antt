@@ -26,7 +26,7 @@ unfolding answerOf
 by-verdict t k i j v e = ap (λ (w : Verdict). record { verdict = w; state = settle w (effect t k i j) t }) (sym e)
 
 -- the verdict by its seven tests, each known as far as the table is read
-by-tests :
+pub by-tests :
     (t : State) (k : Kind) (i j : ℕ) (s c u o v g p : Bool)
     → soundTest t ≡ s → t .closed ≡ c → unknown k ≡ u → outside t k i j ≡ o → toSelf k i j ≡ v → guard t k i j ≡ g → sendsSpent t k ≡ p
     → verdictOf t k i j ≡ firstOf (stepRows s c u o v g p)

@@ -2,12 +2,13 @@ pub mod Sums
 pub mod Chains
 pub mod Facts
 pub mod Soundness
+pub mod Answers
+pub mod Limit
 pub mod Accepted
 pub mod Engages
 pub mod Keeps
 pub mod Bounds
 pub mod Quiet
 pub mod Start
-pub mod Answers
 pub mod Fields
 pub mod Theorems

@@ -1,23 +1,25 @@
 -- The statements of specs/Theorems.antt, proved. Assumes nothing.
-use Prim.Native.Nat.{ℕ}
+use Prim.Native.Nat.{_<_, ℕ}
+use mathlib.Core.Logic.{_⊎_}
 use mathlib.Core.Path.{_∙_, _≡_, ap, refl, subst, sym}
 use Rattle.laws.proofs.Tests.{false-true}
-use Rattle.refusal.proofs.Table.{accepts, first-row, none-holds}
+use Rattle.refusal.proofs.Table.{accepts, first-row, none-holds, numbered, other-kind}
 use Rattle.refusal.specs.Table.{settle}
 use Rattle.refusal.specs.declared.Verdict.{Verdict}
 use Rattle.refusal.specs.declared.Verdict.the-variants.{Accepted, Refused}
 use Rattle.tree_rules.proofs.Accepted.{Allowed, Rule, allowed, announces}
 use Rattle.tree_rules.proofs.Keeps.{keeps}
+use Rattle.tree_rules.proofs.Limit.{limit-decides, limit-only}
 use Rattle.tree_rules.proofs.Quiet.{conclusive-quiet}
 use Rattle.tree_rules.proofs.Soundness.{sound-true, true-sound}
 use Rattle.tree_rules.proofs.Start.{blank-unsound, first-open, fits}
 use Rattle.tree_rules.specs.Answers.{answerOf, stepTable, verdictOf}
-use Rattle.tree_rules.specs.Rules.{Announce, Kind, effect}
+use Rattle.tree_rules.specs.Rules.{Ack, Announce, Idle, Kind, Leave, Send, Take, Unknown, effect, kindOf}
 use Rattle.tree_rules.specs.Soundness.{Open, Sound, soundTest}
 use Rattle.tree_rules.specs.Start.{blank, firstState, startOf, startTable, startVerdict}
 use Rattle.tree_rules.specs.State.{State}
 use Rattle.tree_rules.specs.Termination.{Quiet}
-use Rattle.tree_rules.specs.Theorems.{AnnouncedQuiet, FieldsUnread, SoundKept, SoundTested, StartAnswered, StepAnswered}
+use Rattle.tree_rules.specs.Theorems.{AnnouncedQuiet, FieldsUnread, LimitMet, SoundKept, SoundTested, StartAnswered, StepAnswered}
 
 pub sound-tested : SoundTested
 sound-tested = record { holds = sound-true; tested = true-sound }
@@ -26,6 +28,7 @@ pub step-answered : StepAnswered
 unfolding verdictOf answerOf
 step-answered =
     record {
+      number = λ t k i j. numbered (stepTable t k i j);
       accepted = λ t k i j. (none-holds (stepTable t k i j), accepts (stepTable t k i j));
       next = λ t k i j e. ap (λ (v : Verdict). settle v (effect t k i j) t) e;
       refused = λ t k i j. first-row (stepTable t k i j);
@@ -36,6 +39,7 @@ pub start-answered : StartAnswered
 unfolding startVerdict startOf
 start-answered =
     record {
+      number = λ n root. numbered (startTable n root);
       accepted = λ n root. (none-holds (startTable n root), accepts (startTable n root));
       first = λ n root e. ap (λ (v : Verdict). settle v (firstState n root) blank) e;
       refused = λ n root. first-row (startTable n root);
@@ -73,6 +77,10 @@ announced-quiet =
         go : Rule t i j Announce → Quiet t
         go (announces c) = conclusive-quiet t (a .sound) c
 
+pub limit-met : LimitMet
+limit-met =
+    record { only = limit-only; below = λ t i j o s. limit-decides t i j o s .0; spent = λ t i j o s. limit-decides t i j o s .1 }
+
 pub fields-unread : FieldsUnread
 unfolding answerOf verdictOf
 fields-unread =
@@ -81,4 +89,9 @@ fields-unread =
       ack = λ t i j j′. refl;
       leave = λ t i j j′. refl;
       announce = λ t i i′ j j′. refl;
+      unknown = λ t i i′ j j′. refl;
+      other-kinds = λ t k k′ h h′ i i′ j j′. rw (unknown-kind k h, unknown-kind k′ h′);
     }
+  where
+    unknown-kind : (k : ℕ) → (k ≡ 0) ⊎ (6 < k) → kindOf k ≡ Unknown
+    unknown-kind = other-kind Send Take Idle Ack Leave Announce Unknown

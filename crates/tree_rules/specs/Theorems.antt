@@ -1,16 +1,16 @@
 -- What is proved of the definitions; the proofs are in proofs/, put together in proofs/Theorems.antt.
-use Prim.Native.Nat.{ℕ}
+use Prim.Native.Nat.{_<_, ℕ}
 use mathlib.Core.Bool.{false, true}
-use mathlib.Core.Logic.{_↔_}
+use mathlib.Core.Logic.{_↔_, _≢_, _⊎_}
 use mathlib.Core.Path.{_≡_}
-use Rattle.refusal.specs.Table.{FirstIs, NoneHolds, Row}
+use Rattle.refusal.specs.Table.{FirstIs, NoneHolds, Numbered, Row, codeOf, sendLimit}
 use Rattle.refusal.specs.declared.Refusal.{Refusal}
 use Rattle.refusal.specs.declared.Verdict.the-variants.{Accepted, Refused}
-use Rattle.tree_rules.specs.Answers.{answerOf, stepTable, verdictOf}
-use Rattle.tree_rules.specs.Rules.{Ack, Announce, Idle, Kind, Leave, effect}
+use Rattle.tree_rules.specs.Answers.{answerOf, stepOf, stepTable, verdictOf}
+use Rattle.tree_rules.specs.Rules.{Ack, Announce, Idle, Kind, Leave, Send, Unknown, effect}
 use Rattle.tree_rules.specs.Soundness.{Open, Sound, soundTest}
 use Rattle.tree_rules.specs.Start.{firstState, startOf, startTable, startVerdict}
-use Rattle.tree_rules.specs.State.{State}
+use Rattle.tree_rules.specs.State.{State, activeAt}
 use Rattle.tree_rules.specs.Termination.{Quiet}
 
 -- The facts of soundness and the test that code computes agree.
@@ -19,8 +19,9 @@ pub record SoundTested : Type 0 where
   pub tested : (t : State) → Sound t → soundTest t ≡ true
 
 -- Demand 1 for a step of any state, kind and numbers: it is accepted exactly where no row of the table applies, and then gives the
--- next state; a refusal is that of the first row that applies, and hands back the very state.
+-- next state; a refusal is that of the first row that applies, and hands back the very state. The answer's number is the table's.
 pub record StepAnswered : Type 0 where
+  pub number : (t : State) (k : Kind) (i j : ℕ) → Numbered (stepTable t k i j) (codeOf (answerOf t k i j .verdict))
   pub accepted : (t : State) (k : Kind) (i j : ℕ) → (verdictOf t k i j ≡ Accepted) ↔ NoneHolds (stepTable t k i j)
   pub next : (t : State) (k : Kind) (i j : ℕ) → verdictOf t k i j ≡ Accepted → answerOf t k i j .state ≡ effect t k i j
   pub refused :
@@ -30,6 +31,7 @@ pub record StepAnswered : Type 0 where
 
 -- Demand 1 for a start: the same, with a blank that is not sound where it is refused.
 pub record StartAnswered : Type 0 where
+  pub number : (n root : ℕ) → Numbered (startTable n root) (codeOf (startOf n root .verdict))
   pub accepted : (n root : ℕ) → (startVerdict n root ≡ Accepted) ↔ NoneHolds (startTable n root)
   pub first : (n root : ℕ) → startVerdict n root ≡ Accepted → startOf n root .state ≡ firstState n root
   pub refused :
@@ -50,9 +52,27 @@ pub record AnnouncedQuiet : Type 0 where
   pub closes : (t : State) (i j : ℕ) → verdictOf t Announce i j ≡ Accepted → answerOf t Announce i j .state .closed ≡ true
   pub last : (t : State) → t .closed ≡ true → (k : Kind) (i j : ℕ) → verdictOf t k i j ≡ Accepted → ⊥
 
--- Fields that a kind does not use are not read.
+-- a send that meets no row above the last: from an active node to another
+pub record Sending (t : State) (i j : ℕ) : Type 0 where
+  pub sender : i < t .n
+  pub receiver : j < t .n
+  pub other : i ≢ j
+  pub active : activeAt t i ≡ true
+
+-- Document 01: "Sends below the limit meet 9 never; takes never meet it." The limit is 1,000,000 sends.
+pub record LimitMet : Type 0 where
+  -- what meets 9 is a send, and exactly so many are made
+  pub only : (t : State) (k : Kind) (i j : ℕ) → codeOf (answerOf t k i j .verdict) ≡ 9 → (k ≡ Send) × (t .sends ≡ sendLimit)
+  -- a send that meets no row above is accepted exactly if fewer are made, and meets 9 exactly if so many are
+  pub below : (t : State) (i j : ℕ) → Open t → Sending t i j → (codeOf (answerOf t Send i j .verdict) ≡ 0) ↔ (t .sends < sendLimit)
+  pub spent : (t : State) (i j : ℕ) → Open t → Sending t i j → (codeOf (answerOf t Send i j .verdict) ≡ 9) ↔ (t .sends ≡ sendLimit)
+
+-- Fields that a kind does not use are not read: an unknown kind uses none, and all kind numbers outside 1 to 6 are answered alike.
 pub record FieldsUnread : Type 0 where
   pub idle : (t : State) (i j j′ : ℕ) → answerOf t Idle i j ≡ answerOf t Idle i j′
   pub ack : (t : State) (i j j′ : ℕ) → answerOf t Ack i j ≡ answerOf t Ack i j′
   pub leave : (t : State) (i j j′ : ℕ) → answerOf t Leave i j ≡ answerOf t Leave i j′
   pub announce : (t : State) (i i′ j j′ : ℕ) → answerOf t Announce i j ≡ answerOf t Announce i′ j′
+  pub unknown : (t : State) (i i′ j j′ : ℕ) → answerOf t Unknown i j ≡ answerOf t Unknown i′ j′
+  pub other-kinds :
+      (t : State) (k k′ : ℕ) → (k ≡ 0) ⊎ (6 < k) → (k′ ≡ 0) ⊎ (6 < k′) → (i i′ j j′ : ℕ) → stepOf t k i j ≡ stepOf t k′ i′ j′

@@ -6,20 +6,21 @@ use lib.Seq.{take-append-seam}
 use mathlib.Core.Bool.{false, not, true}
 use mathlib.Core.List.{List, [], _++_, _∷_}
 use mathlib.Core.Logic.{inl, inr}
-use mathlib.Core.Path.{_∙_, _≡_, ap}
+use mathlib.Core.Path.{_∙_, _≡_, ap, refl, subst, sym}
 use native.Mathlib.Omega.{arith}
 use Rattle.decimal.proofs.Put.{put-length, put-past, put-stands}
 use Rattle.decimal.specs.Text.{put}
-use Rattle.refusal.proofs.Table.{accepts, first-row, none-holds}
-use Rattle.refusal.specs.Table.{NoneHolds, _⟶_, also, firstOf, none}
+use Rattle.refusal.proofs.Table.{accepts, first-row, none-holds, numbered}
+use Rattle.refusal.specs.Table.{NoneHolds, Numbered, _⟶_, also, codeOf, firstOf, none}
 use Rattle.refusal.specs.declared.Refusal.{Refusal}
 use Rattle.refusal.specs.declared.Refusal.the-variants.{ShortBuffer, Unsound}
+use Rattle.refusal.specs.declared.Verdict.{Verdict}
 use Rattle.refusal.specs.declared.Verdict.the-variants.{Accepted, Refused}
 use Rattle.tree_rules.specs.Soundness.{soundTest}
 use Rattle.tree_rules.specs.State.{State}
 use Rattle.tree_text.proofs.Steps.{verdict-of}
 use Rattle.tree_text.specs.Theorems.{WriteAnswered}
-use Rattle.tree_text.specs.Write.{bufferOf, stateText, writeTable, writeVerdict, writtenOf}
+use Rattle.tree_text.specs.Write.{bufferOf, stateText, told, writeTable, writeVerdict, writtenNumber, writtenOf}
 use Rattle.tree_text.specs.declared.Written.the-variants.{Length, NotWritten}
 
 module _ (t : State) (b : List ℕ) where
@@ -38,6 +39,14 @@ module _ (t : State) (b : List ℕ) where
   pub left-no : (e : Refusal) → writeVerdict t b ≡ Refused e → bufferOf t b ≡ b
   unfolding bufferOf
   left-no e h = rw h
+
+  number-is : Numbered (writeTable t b) (writtenNumber (writtenOf t b))
+  unfolding writtenOf writeVerdict
+  number-is = subst (Numbered (writeTable t b)) (sym (by (firstOf (writeTable t b)))) (numbered (writeTable t b))
+    where
+      by : (v : Verdict) → writtenNumber (told v (length (stateText t))) ≡ codeOf v
+      by Accepted = refl
+      by (Refused e) = refl
 
   -- ---- by the code's tests
 
@@ -85,6 +94,7 @@ module _ (t : State) (b : List ℕ) where
 pub write-answered : WriteAnswered
 unfolding writeVerdict
 write-answered = record {
+  number = number-is;
   accepted = λ t b. (none-holds (writeTable t b), accepts (writeTable t b));
   length-told = told-yes;
   text-stands = stands;

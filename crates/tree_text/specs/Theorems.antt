@@ -5,7 +5,7 @@ use mathlib.Core.List.{List}
 use mathlib.Core.Logic.{_↔_, _≢_, _⊎_}
 use mathlib.Core.Path.{_≡_}
 use Rattle.decimal.specs.Exact.{Stands}
-use Rattle.refusal.specs.Table.{FirstIs, NoneHolds, Row}
+use Rattle.refusal.specs.Table.{FirstIs, NoneHolds, Numbered, Row}
 use Rattle.refusal.specs.declared.Refusal.{Refusal}
 use Rattle.refusal.specs.declared.Refusal.the-variants.{NodeCount, NotAForm, UnknownNode}
 use Rattle.refusal.specs.declared.Verdict.the-variants.{Accepted, Refused}
@@ -13,7 +13,7 @@ use Rattle.tree_rules.specs.Soundness.{Sound}
 use Rattle.tree_rules.specs.State.{State, climb}
 use Rattle.tree_text.specs.Read.{fresh, nodeOf, nothing, readOf, refused}
 use Rattle.tree_text.specs.Text.{lengthOf, longest, opening, textOf}
-use Rattle.tree_text.specs.Write.{bufferOf, stateText, writeTable, writeVerdict, writtenOf}
+use Rattle.tree_text.specs.Write.{bufferOf, stateText, writeTable, writeVerdict, writtenNumber, writtenOf}
 use Rattle.tree_text.specs.declared.Found.{Found}
 use Rattle.tree_text.specs.declared.Reading.{Reading}
 use Rattle.tree_text.specs.declared.Written.the-variants.{Length, NotWritten}
@@ -79,8 +79,9 @@ pub record LengthKnown : Type 0 where
       (n : ℕ) (e : List ℕ) (root : ℕ) → EngagementTree n e root → ((i : ℕ) → i < n → getD e i 16 ≢ 16)
       → length (textOf e root) ≡ longest n
 
--- The writer's answer for every state and buffer.
+-- The writer's answer for every state and buffer; its number is the table's.
 pub record WriteAnswered : Type 0 where
+  pub number : (t : State) (b : List ℕ) → Numbered (writeTable t b) (writtenNumber (writtenOf t b))
   pub accepted : (t : State) (b : List ℕ) → (writeVerdict t b ≡ Accepted) ↔ NoneHolds (writeTable t b)
   pub length-told : (t : State) (b : List ℕ) → writeVerdict t b ≡ Accepted → writtenOf t b ≡ Length (length (stateText t))
   pub text-stands : (t : State) (b : List ℕ) → writeVerdict t b ≡ Accepted → take (length (stateText t)) (bufferOf t b) ≡ stateText t
