@@ -1,6 +1,7 @@
 pub mod Trace
 pub mod Traced
 pub mod WholeRun
+pub mod Limit
 pub mod Change
 pub mod Steps
 pub mod Sums

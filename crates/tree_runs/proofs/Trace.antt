@@ -18,7 +18,7 @@ use Rattle.tree_rules.proofs.Facts.{Facts, false-engaged, in-acks, in-engager, 
 use Rattle.tree_rules.specs.Rules.{Ack, Announce, Idle, Kind, Leave, Send, Take, Unknown, effect, engageOf, leaveOf}
 use Rattle.tree_rules.specs.State.{State, acksAt, activeAt, engaged, engagerAt, transitAt}
 use Rattle.tree_rules.specs.Termination.{acksTotal}
-use Rattle.tree_runs.specs.Counts.{activeNext, engagedNext, isAnnounce, received, reply, sendBetween, takeBetween}
+use Rattle.tree_runs.specs.Counts.{activeNext, engagedNext, isAnnounce, received, reply, sendBetween, sending, takeBetween}
 
 -- one place of the pairs
 pair-ind : (b c i j : ℕ) → c < 16 → j < 16 → ind (b * 16 + c) (i * 16 + j) ≡ cond (eqb i b && eqb j c) 1 0
@@ -120,6 +120,17 @@ module _ (t : State) (f : Facts t) where
       let e16 = engager-16 t f o i hi l in
       omega (arith, sum-raised 16 (t .acks) (engagerAt t i) (in-acks t f (engagerAt t i) e16) e16)
   acks-step o Announce i j r = refl
+
+-- ---- sends
+
+pub sends-step : (t : State) (k : Kind) (i j : ℕ) → effect t k i j .sends ≡ t .sends + sending k
+sends-step t Send i j = refl
+sends-step t Take i j = take-cases (λ (s : State). s .sends ≡ t .sends + 0) t i j (λ _. omega arith) (λ _. omega arith)
+sends-step t Idle i j = omega arith
+sends-step t Ack i j = omega arith
+sends-step t Leave i j = omega arith
+sends-step t Announce i j = omega arith
+sends-step t Unknown i j = omega arith
 
 -- ---- what closes the run
 

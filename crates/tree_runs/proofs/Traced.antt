@@ -16,8 +16,8 @@ use Rattle.tree_rules.specs.Soundness.{Sound}
 use Rattle.tree_rules.specs.State.{State, activeAt, engaged, transitAt}
 use Rattle.tree_rules.specs.Termination.{Quiet, acksTotal, engagedOthers, isOther, stepsLeft}
 use Rattle.tree_rules.proofs.Fields.{same-n, same-root}
-use Rattle.tree_runs.proofs.Trace.{acks-step, active-step, closed-step, engaged-step, transit-step}
-use Rattle.tree_runs.specs.Counts.{QuietBy, acksBy, activeAfter, announcedIn, engagedAfter, engagedBy, isAnnounce, kind, receivedIn, repliesIn, sendsBetween, takesBetween, transitBy, tree}
+use Rattle.tree_runs.proofs.Trace.{acks-step, active-step, closed-step, engaged-step, sends-step, transit-step}
+use Rattle.tree_runs.specs.Counts.{QuietBy, acksBy, activeAfter, announcedIn, engagedAfter, engagedBy, isAnnounce, kind, receivedIn, repliesIn, sendsBetween, sendsIn, takesBetween, transitBy, tree}
 use Rattle.tree_runs.specs.WholeRun.{stepsBy}
 
 pub may : (t : State) (x : Request) → Accepts tree t x → Allowed t (kind x) (x .i) (x .j)
@@ -35,6 +35,7 @@ pub record Traced (t : State) (acc : List Request) (s : State) : Type 0 where
   pub engagement : (b : ℕ) → engaged s b ≡ engagedAfter (engaged t b) acc b
   pub transit : (b c : ℕ) → c < 16 → transitAt s b c + takesBetween acc b c ≡ transitAt t b c + sendsBetween acc b c
   pub acks : acksTotal s + receivedIn acc ≡ acksTotal t + repliesIn (engaged t) acc
+  pub sends : s .sends ≡ t .sends + sendsIn acc
   pub closing : s .closed ≡ (t .closed || announcedIn acc)
 
 traced-stop : (t : State) → Sound t → Traced t [] t
@@ -47,6 +48,7 @@ traced-stop t s =
       engagement = λ b. refl;
       transit = λ b c h. refl;
       acks = refl;
+      sends = omega arith;
       closing = keep (t .closed);
     }
   where
@@ -73,6 +75,7 @@ traced-more t x a acc s c =
             acks-step t f (p .running) (kind x) (x .i) (x .j) (p .by),
             ap (λ (e : ℕ → Bool). repliesIn e acc) (fun-ext engage),
           );
+      sends = omega (arith, c .sends, sends-step t (kind x) (x .i) (x .j));
       closing =
           c .closing ∙ ap (λ (w : Bool). w || announcedIn acc) (closed-step t (kind x) (x .i) (x .j))
           ∙ or-move (isAnnounce (kind x)) (t .closed) (announcedIn acc);

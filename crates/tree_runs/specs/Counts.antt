@@ -44,6 +44,16 @@ engagedNext Leave i e b = cond (eqb i b) false e
 engagedNext Announce i e b = e
 engagedNext Unknown i e b = e
 
+-- 1 for a send, else 0
+abbrev pub sending : Kind → ℕ
+sending Send = 1
+sending Take = 0
+sending Idle = 0
+sending Ack = 0
+sending Leave = 0
+sending Announce = 0
+sending Unknown = 0
+
 -- 1 for a send from b to c, else 0
 abbrev pub sendBetween : Kind → ℕ → ℕ → ℕ → ℕ → ℕ
 sendBetween Send i j b c = cond (eqb i b && eqb j c) 1 0
@@ -105,6 +115,10 @@ abbrev pub engagedAfter : Bool → List Request → ℕ → Bool
 engagedAfter e [] b = e
 engagedAfter e (x ∷ xs) b = engagedAfter (engagedNext (kind x) (x .i) e b) xs b
 
+abbrev pub sendsIn : List Request → ℕ
+sendsIn [] = 0
+sendsIn (x ∷ xs) = sending (kind x) + sendsIn xs
+
 abbrev pub sendsBetween : List Request → ℕ → ℕ → ℕ
 sendsBetween [] b c = 0
 sendsBetween (x ∷ xs) b c = sendBetween (kind x) (x .i) (x .j) b c + sendsBetween xs b c
@@ -152,6 +166,10 @@ acksBy t xs = acksTotal t + repliesIn (engaged t) (acceptedOf tree t xs) - recei
 -- demand 3's E, engaged nodes besides the root
 abbrev pub othersBy : State → List Request → ℕ
 othersBy t xs = countTo 16 (λ b. not (eqb b (t .root)) && engagedBy t xs b)
+
+-- sends made: those that the first state counts, plus the accepted ones
+abbrev pub sendsBy : State → List Request → ℕ
+sendsBy t xs = t .sends + sendsIn (acceptedOf tree t xs)
 
 -- every node is passive and no message is in transit
 pub record QuietBy (t : State) (xs : List Request) : Type 0 where

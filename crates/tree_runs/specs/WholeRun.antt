@@ -2,17 +2,19 @@
 use Prim.Native.Nat.{_*_, _+_, _<_, _≤_, ℕ}
 use lib.ListN.{length}
 use mathlib.Core.List.{List, [], _++_}
-use mathlib.Core.Logic.{_↔_}
+use mathlib.Core.Logic.{_↔_, _≢_}
+use mathlib.Core.Bool.{true}
 use mathlib.Core.Path.{_≡_}
+use Rattle.refusal.specs.Table.{codeOf, sendLimit}
 use Rattle.refusal.specs.declared.Verdict.the-variants.{Accepted}
 use Rattle.runs.specs.Runs.{Accepts, Request, acceptedOf, next, runOf}
 use Rattle.tree_rules.specs.Answers.{stepOf}
-use Rattle.tree_rules.specs.Rules.{Announce}
+use Rattle.tree_rules.specs.Rules.{Announce, Send}
 use Rattle.tree_rules.specs.Soundness.{Open}
 use Rattle.tree_rules.specs.Start.{startOf, startVerdict}
 use Rattle.tree_rules.specs.State.{State, activeAt, engaged, transitAt}
 use Rattle.tree_rules.specs.Termination.{Closing, acksTotal}
-use Rattle.tree_runs.specs.Counts.{AllClosing, Announced, QuietBy, Unannounced, acksBy, activeBy, engagedBy, kind, othersBy, receivedIn, repliesIn, sendsBetween, takesBetween, transitBy, tree}
+use Rattle.tree_runs.specs.Counts.{AllClosing, Announced, QuietBy, Unannounced, acksBy, activeBy, engagedBy, kind, othersBy, receivedIn, repliesIn, sendsBetween, sendsBy, sendsIn, takesBetween, transitBy, tree}
 
 -- What a state accepts next, of all requests: one acknowledgement or leaving at least and those alone, or announcements alone and all
 -- of them.
@@ -58,3 +60,25 @@ pub record WholeRuns : Type 0 where
   -- A step by kind number answers as the machine does, so that the claim is about the code that meets `stepOf`.
   pub answers :
       (t : State) (x : Request) → stepOf t (x .kind) (x .i) (x .j) ≡ record { verdict = tree .verdict t x; state = next tree t x }
+
+-- Document 01: "Sends below the limit meet 9 never; takes never meet it", counted over a run.
+pub record LimitCounted : Type 0 where
+  -- what meets 9 is a send, and exactly 1,000,000 are made by then
+  pub only :
+      (t : State) → Open t → (xs : List Request) (x : Request) → codeOf (tree .verdict (runOf tree t xs) x) ≡ 9
+      → (kind x ≡ Send) × (sendsBy t xs ≡ sendLimit)
+  -- a send from an active node to another, before the announcement, is accepted exactly if fewer are made, and meets 9 exactly if so many are
+  pub decides :
+      (t : State) → Open t → (xs : List Request) → Unannounced t xs → (x : Request) → kind x ≡ Send → x .i < t .n → x .j < t .n → x .i ≢ x .j
+      → activeBy t xs (x .i) ≡ true
+      → ((codeOf (tree .verdict (runOf tree t xs) x) ≡ 0) ↔ (sendsBy t xs < sendLimit))
+      × ((codeOf (tree .verdict (runOf tree t xs) x) ≡ 9) ↔ (sendsBy t xs ≡ sendLimit))
+  -- in a run from a start exactly 1,000,000 sends of the run are accepted by then, and with fewer nothing meets 9
+  pub from-start :
+      (n root : ℕ) → startVerdict n root ≡ Accepted → (xs : List Request) (x : Request)
+      → codeOf (tree .verdict (runOf tree (startOf n root .state) xs) x) ≡ 9
+      → (kind x ≡ Send) × (sendsIn (acceptedOf tree (startOf n root .state) xs) ≡ sendLimit)
+  pub below :
+      (n root : ℕ) → startVerdict n root ≡ Accepted → (xs : List Request)
+      → sendsIn (acceptedOf tree (startOf n root .state) xs) < sendLimit
+      → (x : Request) → codeOf (tree .verdict (runOf tree (startOf n root .state) xs) x) ≢ 9
