@@ -28,7 +28,7 @@ use Rattle.tree_runs.proofs.Traced.{may}
 use Rattle.tree_runs.proofs.WholeRun.{whole-runs}
 use Rattle.tree_runs.specs.Counts.{Announced, Unannounced, activeBy, kind, transitBy, tree}
 use Rattle.tree_runs.specs.DijkstraScholten.{Addr}
-use Rattle.instances.specs.Tree.{Instances, QuietPoint, Unreached, Worked, first, handed, requests, steps}
+use Rattle.instances.specs.Tree.{Instances, QuietPoint, Unreached, Worked, first, handed, handedRequests, handedSteps, handedTree, requests, steps}
 use Rattle.tree_runs.specs.Requests.{announce, numbers}
 use Rattle.tree_runs.specs.WholeRun.{stepsBy}
 
@@ -109,6 +109,8 @@ instances =
     let first-quiet : QuietPoint first requests = quiet-point first requests refl refl refl in
     let handed-open : Open handed = open-tested handed refl refl in
     let handed-quiet : QuietPoint handed [] = quiet-point handed [] refl refl refl in
+    let three-open : Open handedTree = open-tested handedTree refl refl in
+    let three-quiet : QuietPoint handedTree handedRequests = quiet-point handedTree handedRequests refl refl refl in
     let root : Addr 3 = record { nr = 0; below = omega arith } in
     record {
       start = (refl, first-open);
@@ -117,6 +119,10 @@ instances =
       worked = worked first requests steps _ first-open first-quiet refl refl refl refl refl refl;
       handed-point = handed-quiet;
       handed-worked = worked handed [] [] _ handed-open handed-quiet refl refl refl refl refl refl;
+      three-in = three-open;
+      three-point = (refl, three-quiet);
+      three-counts = (refl, refl);
+      three-worked = worked handedTree handedRequests handedSteps _ three-open three-quiet refl refl refl refl refl refl;
       agreed =
           record {
             a0 = root;

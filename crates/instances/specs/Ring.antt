@@ -1,7 +1,7 @@
--- That demand 3 speaks of something: a start and a state handed in that meet what `WholeRuns` (ring_runs) asks for, and quiet points of
+-- That demand 3 speaks of something: a start and states handed in that meet what `WholeRuns` (ring_runs) asks for, and quiet points of
 -- their runs, with K worked out there. Only statements are here; proofs/Ring.antt proves them.
 use Prim.Native.Nat.{_<_, ℕ}
-use lib.IntN.{pos}
+use lib.IntN.{negsuc, pos}
 use lib.ListN.{replicate}
 use mathlib.Core.Bool.{false, true}
 use mathlib.Core.List.{List, [], _++_, _∷_}
@@ -57,7 +57,61 @@ handed =
       closed = false;
     }
 
--- no list of requests leads to s from any accepted start: of `handed` this is so because one node alone has nobody to send to
+-- ---- two rings of three nodes handed in, with counters that no run gives: of three messages sent in all, node 0 sent two and received two
+
+-- the places of three nodes
+abbrev pub three : ℕ → ℕ → ℕ → List ℕ
+three a b c = a ∷ b ∷ c ∷ replicate 93 0
+
+-- all passive, nothing pending; nodes 0 and 1 are black, the token is at node 1 with a sum of -5 that no counters give
+abbrev pub quietRing : State
+quietRing =
+    record {
+      n = 3;
+      active = replicate 96 false;
+      color = 3 ∷ replicate 11 0;
+      sent = three 2 0 1;
+      received = three 2 1 0;
+      pending = replicate 96 0;
+      pos = 1;
+      q = negsuc 4;
+      black = false;
+      closed = false;
+    }
+
+-- to the announcement: home with the black of node 1, and one round, since node 2, above the token, is white
+abbrev pub quietMoves : List Request
+quietMoves = pass 1 ∷ probe ∷ pass 2 ∷ pass 1 ∷ []
+
+-- node 1 is active and a message is pending at node 2, which is black; the token is at node 0 with a sum of 7
+abbrev pub busyRing : State
+busyRing =
+    record {
+      n = 3;
+      active = false ∷ true ∷ replicate 94 false;
+      color = 4 ∷ replicate 11 0;
+      sent = three 2 0 1;
+      received = three 2 0 0;
+      pending = three 0 0 1;
+      pos = 0;
+      q = pos 7;
+      black = false;
+      closed = false;
+    }
+
+-- to a quiet point, with four requests that are refused
+abbrev pub busyRequests : List Request
+busyRequests = announce ∷ send 1 1 ∷ take 2 ∷ take 2 ∷ send 2 3 ∷ idle 1 ∷ idle 2 ∷ []
+
+abbrev pub busyAnswers : List ℕ
+busyAnswers = 8 ∷ 7 ∷ 0 ∷ 8 ∷ 6 ∷ 0 ∷ 0 ∷ []
+
+-- to the announcement: two rounds, the first with the black of node 2, above the token
+abbrev pub busyMoves : List Request
+busyMoves = probe ∷ pass 2 ∷ pass 1 ∷ probe ∷ pass 2 ∷ pass 1 ∷ []
+
+-- no list of requests leads to s from any accepted start: of the states handed in this is so because no node sends to itself, so that what
+-- node 0 sent, received and has pending are different messages, and no more than all that were sent
 abbrev pub Unreached : State → Type 0
 Unreached s =
     (n : ℕ) (flags : List ℕ) → startVerdict n flags ≡ Accepted → (xs : List Request) → runOf ring (startOf n flags .state) xs ≡ s → ⊥
@@ -79,6 +133,15 @@ pub record Worked (r : State) (xs ys : List Request) (K : ℕ) : Type 0 where
   pub countdown : Countdown r xs
   pub only : (c : Countdown r xs) → c .K ≡ K
 
+-- r is handed in: sound, not yet announced, and given by no run from a start; it answers the requests xs with these numbers, and they lead
+-- to a quiet point, where ys are left to the announcement, K of them
+pub record HandedIn (r : State) (xs : List Request) (told : List ℕ) (ys : List Request) (K : ℕ) : Type 0 where
+  pub running : Open r
+  pub unreached : Unreached r
+  pub answered : numbers r xs ≡ told
+  pub point : QuietPoint r xs
+  pub worked : Worked r xs ys K
+
 -- The agreement with EWD998 speaks of something too: of an initial state, of a state reached by a SendMsg, of termination detected. Its
 -- claim about sound states is met by the start below.
 pub record Agreed : Type 0 where
@@ -98,4 +161,8 @@ pub record Instances : Type 0 where
   -- the state handed in is quiet; one move is left there
   pub handed-point : QuietPoint handed []
   pub handed-worked : Worked handed [] (probe ∷ []) 1
+  -- the rings of three: four moves are left on the one, six on the other, which is not quiet at first
+  pub quiet-ring : HandedIn quietRing [] [] quietMoves 4
+  pub busy-ring : HandedIn busyRing busyRequests busyAnswers busyMoves 6
+  pub busy-first : QuietBy busyRing [] → ⊥
   pub agreed : Agreed

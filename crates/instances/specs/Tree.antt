@@ -1,4 +1,4 @@
--- That demand 3 speaks of something: a start and a state handed in that meet what `WholeRuns` (tree_runs) asks for, and quiet points of
+-- That demand 3 speaks of something: a start and states handed in that meet what `WholeRuns` (tree_runs) asks for, and quiet points of
 -- their runs, with K worked out there. Only statements are here; proofs/Tree.antt proves them.
 use Prim.Native.Nat.{ℕ}
 use lib.ListN.{replicate}
@@ -11,7 +11,7 @@ use Rattle.tree_rules.specs.Soundness.{Open}
 use Rattle.tree_rules.specs.Start.{startOf, startVerdict}
 use Rattle.tree_rules.specs.State.{State}
 use Rattle.tree_runs.specs.Agreement.{Reachable}
-use Rattle.tree_runs.specs.Counts.{Announced, QuietBy, Unannounced, tree}
+use Rattle.tree_runs.specs.Counts.{Announced, QuietBy, Unannounced, acksBy, othersBy, tree}
 use Rattle.tree_runs.specs.DijkstraScholten.{Addr, Initial, SignalTermination}
 use Rattle.tree_runs.specs.Requests.{ack, announce, idle, leave, numbers, send, take}
 use Rattle.tree_runs.specs.View.{systemsOf}
@@ -47,6 +47,35 @@ handed =
       sends = 1;
       closed = false;
     }
+
+-- ---- a tree of three nodes handed in; nothing is said of the runs that may lead to it
+
+-- All passive, no message in transit. The root engaged node 1, and node 1 engaged node 2; two acknowledgements are on their way to the
+-- root and one to node 1: A = 3, E = 2. Of nine messages sent five are unacknowledged.
+abbrev pub handedTree : State
+handedTree =
+    record {
+      n = 3;
+      root = 0;
+      active = replicate 16 false;
+      engager = 0 ∷ 0 ∷ 1 ∷ replicate 13 16;
+      unacked = 3 ∷ 2 ∷ replicate 14 0;
+      transit = replicate 256 0;
+      acks = 2 ∷ 1 ∷ replicate 14 0;
+      sends = 9;
+      closed = false;
+    }
+
+-- three requests that are refused there: an announcement, and the leaving of nodes that have messages unacknowledged
+abbrev pub handedRequests : List Request
+handedRequests = announce ∷ leave 1 ∷ leave 0 ∷ []
+
+abbrev pub handedAnswers : List ℕ
+handedAnswers = 8 ∷ 8 ∷ 8 ∷ []
+
+-- to the announcement
+abbrev pub handedSteps : List Request
+handedSteps = ack 0 ∷ leave 2 ∷ ack 1 ∷ ack 1 ∷ ack 0 ∷ leave 1 ∷ ack 0 ∷ []
 
 -- no list of requests leads to s from any accepted start: of `handed` this is so because one node alone has nobody to send to
 abbrev pub Unreached : State → Type 0
@@ -93,4 +122,9 @@ pub record Instances : Type 0 where
   -- the state handed in is quiet; no step is left there
   pub handed-point : QuietPoint handed []
   pub handed-worked : Worked handed [] [] 0
+  -- the tree of three handed in is sound, not yet announced and quiet; A + 2E = 7 steps are left there
+  pub three-in : Open handedTree
+  pub three-point : (numbers handedTree handedRequests ≡ handedAnswers) × QuietPoint handedTree handedRequests
+  pub three-counts : (acksBy handedTree handedRequests ≡ 3) × (othersBy handedTree handedRequests ≡ 2)
+  pub three-worked : Worked handedTree handedRequests handedSteps 7
   pub agreed : Agreed

@@ -1,9 +1,9 @@
 -- The limit of sends, counted over a run. Assumes nothing.
 use Prim.Native.Nat.{_<_, ℕ}
-use mathlib.Core.Bool.{Bool, _||_, true}
+use mathlib.Core.Bool.{true}
 use mathlib.Core.List.{List}
 use mathlib.Core.Logic.{_↔_, _≢_}
-use mathlib.Core.Path.{_∙_, _≡_, ap, subst, sym}
+use mathlib.Core.Path.{_∙_, _≡_, subst, sym}
 use native.Mathlib.Omega.{arith}
 use Rattle.laws.proofs.Sums.{total-zeros}
 use Rattle.laws.specs.Sums.{total}
@@ -20,7 +20,7 @@ use Rattle.ring_rules.specs.Theorems.{Sending}
 use Rattle.runs.proofs.Runs.{run-of}
 use Rattle.runs.specs.Runs.{Request, acceptedOf, runOf}
 use Rattle.ring_runs.proofs.Trace.{run-active, run-closed, run-n, run-sent, run-sound}
-use Rattle.ring_runs.specs.Counts.{Unannounced, activeBy, announcedIn, kind, ring, sendsBy, sendsIn}
+use Rattle.ring_runs.specs.Counts.{Unannounced, activeBy, kind, ring, sendsBy, sendsIn}
 use Rattle.ring_runs.specs.WholeRun.{LimitCounted}
 
 module _ (r : State) (o : Open r) (xs : List Request) where

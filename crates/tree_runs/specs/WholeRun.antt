@@ -1,9 +1,9 @@
 -- Demand 3 for the tree, one claim about whole lists of requests, refused ones included. The proof is in proofs/WholeRun.antt.
 use Prim.Native.Nat.{_*_, _+_, _<_, _≤_, ℕ}
 use lib.ListN.{length}
+use mathlib.Core.Bool.{true}
 use mathlib.Core.List.{List, [], _++_}
 use mathlib.Core.Logic.{_↔_, _≢_}
-use mathlib.Core.Bool.{true}
 use mathlib.Core.Path.{_≡_}
 use Rattle.refusal.specs.Table.{codeOf, sendLimit}
 use Rattle.refusal.specs.declared.Verdict.the-variants.{Accepted}
