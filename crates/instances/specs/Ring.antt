@@ -153,15 +153,15 @@ pub record Agreed : Type 0 where
 pub record Instances : Type 0 where
   -- the start is accepted, and its state is sound and not yet announced
   pub start : (startVerdict 3 startFlags ≡ Accepted) × Open first
-  -- the state handed in is sound and not yet announced too, and no run from a start gives it
+  -- the ring of one node handed in is sound and not yet announced too, and no run from a start gives it
   pub handed-in : Open handed × Unreached handed
   -- the run from the start, with its refused requests, leads to a quiet point; seven moves are left there
   pub quiet-point : (numbers first requests ≡ answers) × QuietPoint first requests
   pub worked : Worked first requests moves 7
-  -- the state handed in is quiet; one move is left there
+  -- it is quiet; one move is left there
   pub handed-point : QuietPoint handed []
   pub handed-worked : Worked handed [] (probe ∷ []) 1
-  -- the rings of three: four moves are left on the one, six on the other, which is not quiet at first
+  -- the rings of three handed in: four moves are left on the one, six on the other, which is not quiet at first
   pub quiet-ring : HandedIn quietRing [] [] quietMoves 4
   pub busy-ring : HandedIn busyRing busyRequests busyAnswers busyMoves 6
   pub busy-first : QuietBy busyRing [] → ⊥

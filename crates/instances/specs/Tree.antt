@@ -66,7 +66,7 @@ handedTree =
       closed = false;
     }
 
--- three requests that are refused there: an announcement, and the leaving of nodes that have messages unacknowledged
+-- three requests that are refused there: the announcement, and the leaving of node 1 and of the root
 abbrev pub handedRequests : List Request
 handedRequests = announce ∷ leave 1 ∷ leave 0 ∷ []
 
@@ -114,12 +114,12 @@ pub record Agreed : Type 0 where
 pub record Instances : Type 0 where
   -- the start is accepted, and its state is sound and not yet announced
   pub start : (startVerdict 3 0 ≡ Accepted) × Open first
-  -- the state handed in is sound and not yet announced too, and no run from a start gives it
+  -- the tree of one node handed in is sound and not yet announced too, and no run from a start gives it
   pub handed-in : Open handed × Unreached handed
   -- the run from the start, with its refused requests, leads to a quiet point; two steps are left there
   pub quiet-point : (numbers first requests ≡ answers) × QuietPoint first requests
   pub worked : Worked first requests steps 2
-  -- the state handed in is quiet; no step is left there
+  -- it is quiet; no step is left there
   pub handed-point : QuietPoint handed []
   pub handed-worked : Worked handed [] [] 0
   -- the tree of three handed in is sound, not yet announced and quiet; A + 2E = 7 steps are left there
