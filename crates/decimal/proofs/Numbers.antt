@@ -42,7 +42,7 @@ decimal-digits =
     (λ n many h. rw (decimal-large n many) (digits-snoc (decimal (n / 10)) (48 + n % 10) h (digit-byte (n % 10) (omega arith))))
 
 -- the value of digits after v
-unfoldable value : ℕ → List ℕ → ℕ
+unfoldable pub value : ℕ → List ℕ → ℕ
 value v [] = v
 value v (b ∷ d) = value (v * 10 + (b - 48)) d
 
@@ -51,7 +51,7 @@ unfolding value
 value-snoc [] v y = refl
 value-snoc (b ∷ d) v y = value-snoc d (v * 10 + (b - 48)) y
 
-decimal-value : (n : ℕ) → value 0 (decimal n) ≡ n
+pub decimal-value : (n : ℕ) → value 0 (decimal n) ≡ n
 unfolding value
 decimal-value =
     decimal-induct (λ n. value 0 (decimal n) ≡ n)
@@ -59,7 +59,7 @@ decimal-value =
     (λ n many h. rw (decimal-large n many) (value-snoc (decimal (n / 10)) 0 (48 + n % 10) ∙ omega (arith, h)))
 
 -- digits after a number that is not 0 are the text of their value
-more-digit : (v b : ℕ) → 0 < v → 48 ≤ b → b ≤ 57 → decimal (v * 10 + (b - 48)) ≡ decimal v ++ (b ∷ [])
+pub more-digit : (v b : ℕ) → 0 < v → 48 ≤ b → b ≤ 57 → decimal (v * 10 + (b - 48)) ≡ decimal v ++ (b ∷ [])
 more-digit v b h lo hi =
     let ten : 10 ≤ v * 10 + (b - 48) = omega arith in
     let q : (v * 10 + (b - 48)) / 10 ≡ v = omega arith in
@@ -193,7 +193,7 @@ head-append [] b h = absurd (not-suc-le-zero h)
 head-append (x ∷ a) b h = refl
 
 -- a number's text begins with 0 only if it is 0
-decimal-head : (n : ℕ) → 0 < n → 48 < getD (decimal n) 0 0
+pub decimal-head : (n : ℕ) → 0 < n → 48 < getD (decimal n) 0 0
 decimal-head =
     decimal-induct (λ n. 0 < n → 48 < getD (decimal n) 0 0)
     (λ n few k. rw (decimal-small n few) (omega arith))

@@ -2,16 +2,18 @@
 use Prim.Native.Nat.{_+_, _<_, _≤_, suc, zero, ℕ}
 use borrow.Author.Tests.{ne-eqb}
 use lib.Dec.{eqb}
-use lib.ListN.{drop, getD, set}
+use lib.ListN.{drop, getD, length, length-append, set}
 use mathlib.Core.Bool.{cond}
 use mathlib.Core.List.{List, [], _++_, _∷_, append-assoc}
-use mathlib.Core.Logic.{inl, inr}
+use mathlib.Core.Logic.{_≢_, inl, inr}
 use mathlib.Core.Path.{_∙_, _≡_, ap, refl, subst, sym}
 use native.Mathlib.Decide.{decLt, ℕ-discrete}
+use native.Mathlib.Nat.{add-zero}
 use native.Mathlib.Omega.{arith}
 use Rattle.decimal.specs.Number.{numberOf}
 use Rattle.decimal.proofs.Cases.{in-text, rest}
 use Rattle.decimal.proofs.Numbers.{number-sound}
+use Rattle.decimal.specs.Exact.{Stands}
 use Rattle.decimal.specs.Text.{decimal}
 use Rattle.decimal.specs.declared.Num.{Num}
 use Rattle.decimal.specs.declared.Num.the-variants.{Value, Wrong}
@@ -74,6 +76,7 @@ record CloseTaken (s : List ℕ) (k : ℕ) (c m : Reading) : Type 0 where
   stands : drop (c .at) s ≡ closing ∷ drop (m .at) s
   same : m .engager ≡ c .engager
   node : m .node ≡ k
+  end : m .at ≡ c .at + 1
 
 close-taken : (s : List ℕ) (k : ℕ) (c m : Reading) → closed s k c ≡ m → m .verdict ≡ Accepted → CloseTaken s k c m
 close-taken s k c m h a =
@@ -86,6 +89,7 @@ close-taken s k c m h a =
                 ∙ (ap (λ (x : ℕ). x ∷ drop (c .at + 1) s) q ∙ ap (λ (x : Reading). closing ∷ drop (x .at) s) (sym e));
             same = ap (λ (x : Reading). x .engager) e;
             node = ap (λ (x : Reading). x .node) e;
+            end = ap (λ (x : Reading). x .at) e;
           }
     ]
 
@@ -100,23 +104,25 @@ pub record NodeTaken (s : List ℕ) (n : ℕ) (r m : Reading) (by low : ℕ) : T
   pub text : List ℕ
   pub nodes : Lists n k 0 (set (r .engager) k (cond (eqb by 16) k by)) (m .engager) text
   pub stands : drop (r .at) s ≡ opening ∷ (decimal k ++ (text ++ (closing ∷ drop (m .at) s)))
+  pub end : m .at ≡ r .at + 1 + length (decimal k) + length text + 1
 
 pub record ListTaken (s : List ℕ) (n : ℕ) (r m : Reading) (k low : ℕ) : Type 0 where
   pub text : List ℕ
   pub nodes : Lists n k low (r .engager) (m .engager) text
   pub stands : drop (r .at) s ≡ text ++ drop (m .at) s
+  pub end : m .at ≡ r .at + length text
+  pub stop : getD s (m .at) 0 ≢ space
 
 module _ (s : List ℕ) (n : ℕ) (n16 : n ≤ 16) where
-  abbrev TakesLists : ℕ → Type 0
+  abbrev pub TakesLists : ℕ → Type 0
   TakesLists left =
       (r m : Reading) (k low : ℕ) → k < 16 → listOf left s n r k low ≡ m → m .verdict ≡ Accepted → ListTaken s n r m k low
 
-  -- the number's text
-  number-stands : (at k e : ℕ) → numberOf s at ≡ Value k e → k < n → drop at s ≡ decimal k ++ drop e s
+  number-stands : (at k e : ℕ) → numberOf s at ≡ Value k e → k < n → Stands s at k e
   number-stands at k e h kn =
       let w = number-sound s at k e h in
       let same : w .0 ≡ k = omega (arith, w .2) in
-      w .1 .text ∙ ap (λ (x : ℕ). decimal x ++ drop e s) same
+      subst (λ (x : ℕ). Stands s at x e) same (w .1)
 
   node-by : (left : ℕ) → TakesLists left → (r m : Reading) (by low : ℕ) → getD s (r .at) 0 ≡ opening
       → nodeOf left s n r by low ≡ m → m .verdict ≡ Accepted → NodeTaken s n r m by low
@@ -129,6 +135,7 @@ module _ (s : List ℕ) (n : ℕ) (n16 : n ≤ 16) where
       let B = then-accepted (listOf left s n M (E .k) 0) (closed s (E .k)) m body a in
       let L = lists M (listOf left s n M (E .k) 0) (E .k) 0 (omega (arith, E .inside)) refl (B .0) in
       let C = close-taken s (E .k) (listOf left s n M (E .k) 0) m (B .1) a in
+      let number = number-stands (r .at + 1) (E .k) (E .at) (E .number) (E .inside) in
       record {
         k = E .k;
         inside = E .inside;
@@ -140,8 +147,9 @@ module _ (s : List ℕ) (n : ℕ) (n16 : n ≤ 16) where
         stands = rest s (r .at) (in-text s (r .at) (omega arith))
             ∙ (ap (λ (x : ℕ). x ∷ drop (r .at + 1) s) q
             ∙ ap (λ (x : List ℕ). opening ∷ x)
-            (number-stands (r .at + 1) (E .k) (E .at) (E .number) (E .inside)
+            (number .text
             ∙ ap (λ (x : List ℕ). decimal (E .k) ++ x) (L .stands ∙ ap (λ (x : List ℕ). L .text ++ x) (C .stands))));
+        end = omega (arith, C .end, L .end, number .ends);
       }
 
   node-taken : (left : ℕ) → TakesLists left → (r m : Reading) (by low : ℕ) → nodeOf left s n r by low ≡ m → m .verdict ≡ Accepted
@@ -173,23 +181,27 @@ module _ (s : List ℕ) (n : ℕ) (n16 : n ≤ 16) where
             (ap (λ (x : List ℕ). decimal (T .k) ++ (T .text ++ (closing ∷ x))) (R .stands)
             ∙ sym (append-assoc (decimal (T .k)) (T .text ++ (closing ∷ R .text)) (drop (m .at) s)
             ∙ ap (λ (x : List ℕ). decimal (T .k) ++ x) (append-assoc (T .text) (closing ∷ R .text) (drop (m .at) s))))));
+        end = simp length-append (omega (arith, T .end, R .end));
+        stop = R .stop;
       }
 
-  list-taken : (left : ℕ) → TakesLists left
+  pub list-taken : (left : ℕ) → TakesLists left
   list-taken zero r m k low k16 h a = absurd (not-refused r m NotAForm (sym (list-zero s n r k low) ∙ h) a)
   list-taken (suc left) r m k low k16 h a =
       elim (ℕ-discrete (getD s (r .at) 0) space) [
         | yes q ↦ list-by left (list-taken left) r m k low k16 q h a
-        | no q ↦ stop (sym (list-none s n r k low (suc left) (omega arith) q) ∙ h)
+        | no q ↦ stop q (sym (list-none s n r k low (suc left) (omega arith) q) ∙ h)
       ]
     where
-      stop : r ≡ m → ListTaken s n r m k low
-      stop e = record {
+      stop : getD s (r .at) 0 ≢ space → r ≡ m → ListTaken s n r m k low
+      stop q e = record {
         text = [];
         nodes = subst (λ (x : Reading). Lists n k low (r .engager) (x .engager) []) e none;
         stands = ap (λ (x : Reading). drop (x .at) s) e;
+        end = ap (λ (x : Reading). x .at) (sym e) ∙ sym (add-zero (r .at));
+        stop = λ z. q (ap (λ (x : Reading). getD s (x .at) 0) e ∙ z);
       }
 
-  -- a node that the reader accepts
+  -- a list, and a node, that the reader accepts
   pub taken : (left : ℕ) (r m : Reading) (by low : ℕ) → nodeOf left s n r by low ≡ m → m .verdict ≡ Accepted → NodeTaken s n r m by low
   taken left = node-taken left (list-taken left)

@@ -1,0 +1,55 @@
+-- "The first fault from the left decides", for every text. The proof stands in proofs/ under the lower-case name: `FirstFault` is `first-fault`.
+use Prim.Native.Nat.{_+_, _<_, _≤_, ℕ}
+use lib.ListN.{getD, length, take}
+use mathlib.Core.List.{List, _++_}
+use mathlib.Core.Logic.{_↔_, _⊎_}
+use mathlib.Core.Path.{_≡_}
+use Rattle.decimal.specs.Exact.{Stands}
+use Rattle.refusal.specs.declared.Refusal.{Refusal}
+use Rattle.refusal.specs.declared.Refusal.the-variants.{NotAForm, UnknownNode}
+use Rattle.refusal.specs.declared.Verdict.the-variants.{Accepted, Refused}
+use Rattle.tree_faults.specs.Trees.{AllBelow, Nodes, Tree, node, none, treeText}
+use Rattle.tree_text.specs.Read.{readOf}
+use Rattle.tree_text.specs.Text.{opening, textOf}
+use Rattle.tree_text.specs.Theorems.{EngagementTree}
+
+-- the number v stands where a number belongs, right after an opening bracket, its last digit before `end`
+pub record NumberTo (s : List ℕ) (v end : ℕ) : Type 0 where
+  pub at : ℕ
+  pub bracket : getD s at 0 ≡ opening
+  pub number : Stands s (at + 1) v end
+
+-- u is the beginning of the text of a tree. A number that it has to its end, so that another byte of u follows, is below n; one that it
+-- breaks off in, and those after u, may be of any size.
+pub record Begins (n : ℕ) (u : List ℕ) : Type 0 where
+  pub root : ℕ
+  pub children : Nodes
+  pub rest : List ℕ
+  pub tree : Tree root children
+  pub text : treeText root children ≡ u ++ rest
+  pub below : (v end : ℕ) → NumberTo u v end → end < length u → v < n
+
+-- the fault is right after the longest beginning of s that is the beginning of a tree's text
+pub record Fault (n : ℕ) (s : List ℕ) (e : Refusal) : Type 0 where
+  pub place : ℕ
+  pub inside : place ≤ length s
+  pub begins : Begins n (take place s)
+  pub longest : (p : ℕ) → p ≤ length s → Begins n (take p s) → p ≤ place
+  -- "where a number belongs, one without leading zero, read to its last digit, of N or more is 6, anything else .. is 10"
+  pub six : (e ≡ UnknownNode) ↔ ((v : ℕ) × NumberTo s v place × (n ≤ v))
+  pub ten : (e ≡ UnknownNode) ⊎ (e ≡ NotAForm)
+
+-- s is the whole text of a tree with every number below n
+pub record WholeText (n : ℕ) (s : List ℕ) : Type 0 where
+  pub root : ℕ
+  pub children : Nodes
+  pub tree : Tree root children
+  pub numbers : AllBelow n (node root children none)
+  pub text : s ≡ treeText root children
+
+pub record FirstFault : Type 0 where
+  pub refused : (n : ℕ) (s : List ℕ) (e : Refusal) → 0 < n → n ≤ 16 → readOf n s .verdict ≡ Refused e → Fault n s e
+  -- these trees are those that the reader accepts
+  pub accepted : (n : ℕ) (s : List ℕ) → 0 < n → n ≤ 16 → (readOf n s .verdict ≡ Accepted) ↔ WholeText n s
+  -- and what the text of a tree of n nodes begins with is such a beginning
+  pub written : (n : ℕ) (e : List ℕ) (root : ℕ) (u rest : List ℕ) → EngagementTree n e root → textOf e root ≡ u ++ rest → Begins n u
