@@ -122,7 +122,7 @@ module _ (s : List ℕ) (at v e : ℕ) (st : Stands s at v e) where
       after : (x : ℕ) → digitB (getD s x 0) ≡ false → digitB (getD (drop x s) 0 0) ≡ false
       after x h = ap digitB (sym (first-of s (drop x s) x refl)) ∙ h
 
-opening-no-digit : (s : List ℕ) (a : ℕ) → getD s a 0 ≡ opening → digitB (getD s a 0) ≡ true → ⊥
+pub opening-no-digit : (s : List ℕ) (a : ℕ) → getD s a 0 ≡ opening → digitB (getD s a 0) ≡ true → ⊥
 opening-no-digit s a p q = omega (arith, digit-low (getD s a 0) q)
 
 -- two numbers that follow a bracket each and end at the same place are one
