@@ -32,22 +32,36 @@ pub opened : (k : ℕ) (x y : Nodes) (w : List ℕ)
     → nodesText (node k x y) ++ w ≡ space ∷ (opening ∷ (decimal k ++ (nodesText x ++ (closing ∷ (nodesText y ++ w)))))
 opened k x y w = simp append-assoc
 
-pub alike : (x y : Nodes) (b : ℕ) (z q : List ℕ) → b ≢ space → nodesText x ++ (closing ∷ z) ≡ nodesText y ++ (b ∷ q)
-    → (x ≡ y) × (closing ≡ b) × (z ≡ q)
-alike none none b z q h e = let p = heads closing b z q e in (refl, p .0, p .1)
-alike none (node k y y₂) b z q h e =
-    absurd (let p = heads closing space z _ e in let w : _≡_ {A = ℕ} 41 32 = p .0 in let y : ⊥ = omega arith in y)
-alike (node c x x₂) none b z q h e = absurd (h (sym (heads space b _ q e .0)))
-alike (node c x x₂) (node k y y₂) b z q h e =
-    let u = sym (opened c x x₂ (closing ∷ z)) ∙ (e ∙ opened k y y₂ (b ∷ q)) in
-    let v = heads opening opening _ _ (heads space space _ _ u .1) .1 in
+pub no-list : {A : Type 0} (x y : List ℕ) → closing ∷ x ≡ space ∷ y → A
+no-list x y e = absurd (let w : _≡_ {A = ℕ} 41 32 = heads closing space x y e .0 in let z : ⊥ = omega arith in z)
+
+numbers-alike : (c k : ℕ) (x y : Nodes) (X Y : List ℕ)
+    → space ∷ (opening ∷ (decimal c ++ (nodesText x ++ (closing ∷ X)))) ≡ space ∷ (opening ∷ (decimal k ++ (nodesText y ++ (closing ∷ Y))))
+    → (c ≡ k) × (nodesText x ++ (closing ∷ X) ≡ nodesText y ++ (closing ∷ Y))
+numbers-alike c k x y X Y e =
+    number-once c k (nodesText x ++ (closing ∷ X)) (nodesText y ++ (closing ∷ Y)) (no-digit x X) (no-digit y Y)
+    (heads opening opening _ _ (heads space space _ _ e .1) .1)
+
+pub alike : (x y : Nodes) (z q : List ℕ) → getD q 0 0 ≢ space → nodesText x ++ (closing ∷ z) ≡ nodesText y ++ q → (x ≡ y) × (closing ∷ z ≡ q)
+alike none none z q h e = (refl, e)
+alike none (node k y y₂) z q h e = no-list z _ e
+alike (node c x x₂) none z q h e = absurd (h (ap (λ (l : List ℕ). getD l 0 0) (sym e)))
+alike (node c x x₂) (node k y y₂) z q h e =
     let X = nodesText x₂ ++ (closing ∷ z) in
-    let Y = nodesText y₂ ++ (b ∷ q) in
-    let w = number-once c k (nodesText x ++ (closing ∷ X)) (nodesText y ++ (closing ∷ Y)) (no-digit x X) (no-digit y Y) v in
-    let first = alike x y closing X Y (omega arith) (w .1) in
-    let after = alike x₂ y₂ b z q h (first .2) in
+    let Y = nodesText y₂ ++ q in
+    let w = numbers-alike c k x y X Y (sym (opened c x x₂ (closing ∷ z)) ∙ (e ∙ opened k y y₂ q)) in
+    let first = alike x y X (closing ∷ Y) (omega arith) (w .1) in
+    let after = alike x₂ y₂ z q h (heads closing closing X Y (first .1) .1) in
     let same : node c x x₂ ≡ node k y y₂ = cc (w .0, first .0, after .0) in
-    (same, after .1, after .2)
+    (same, after .1)
+
+pub first-alike : (c k : ℕ) (x y : Nodes) (X Y : List ℕ)
+    → space ∷ (opening ∷ (decimal c ++ (nodesText x ++ (closing ∷ X)))) ≡ space ∷ (opening ∷ (decimal k ++ (nodesText y ++ (closing ∷ Y))))
+    → (c ≡ k) × (x ≡ y) × (X ≡ Y)
+first-alike c k x y X Y e =
+    let w = numbers-alike c k x y X Y e in
+    let list = alike x y X (closing ∷ Y) (omega arith) (w .1) in
+    (w .0, list .0, heads closing closing X Y (list .1) .1)
 
 -- ---- which numbers are taken
 
