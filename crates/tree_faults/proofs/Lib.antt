@@ -1,3 +1,4 @@
 pub mod Numbers
 pub mod Nodes
 pub mod Places
+pub mod Reader

@@ -32,6 +32,10 @@ pub opened : (k : ℕ) (x y : Nodes) (w : List ℕ)
     → nodesText (node k x y) ++ w ≡ space ∷ (opening ∷ (decimal k ++ (nodesText x ++ (closing ∷ (nodesText y ++ w)))))
 opened k x y w = simp append-assoc
 
+pub node-size : (k : ℕ) (x y : Nodes)
+    → length (nodesText (node k x y)) ≡ 1 + 1 + length (decimal k) + length (nodesText x) + 1 + length (nodesText y)
+node-size k x y = simp length-append (omega arith)
+
 pub no-list : {A : Type 0} (x y : List ℕ) → closing ∷ x ≡ space ∷ y → A
 no-list x y e = absurd (let w : _≡_ {A = ℕ} 41 32 = heads closing space x y e .0 in let z : ⊥ = omega arith in z)
 
@@ -199,10 +203,6 @@ module _ (s : List ℕ) where
         end = last .0;
         after = last .1;
       }
-
-  node-size : (k : ℕ) (x y : Nodes)
-      → length (nodesText (node k x y)) ≡ 1 + 1 + length (decimal k) + length (nodesText x) + 1 + length (nodesText y)
-  node-size k x y = simp length-append (omega arith)
 
   -- after a list ends no number that did not end where the list begins
   pub quiet : (y : Nodes) (at : ℕ) (D : List ℕ) → drop at s ≡ nodesText y ++ D → (v : ℕ) → NumberTo s v (at + length (nodesText y))

@@ -1,20 +1,24 @@
 -- Numbers in two texts that begin alike, and a number that ends at a place. Assumes nothing.
 use Prim.Native.Nat.{_%_, _*_, _+_, _-_, _/_, _<_, _≤_, suc, zero, ℕ}
+use borrow.Author.Tests.{le-ltb, lt-leb, ne-eqb}
+use lib.Dec.{eqb}
 use lib.ListN.{List·getD-append, drop, getD, length, length-append}
 use lib.Seq.{getD-drop}
 use mathlib.Core.Bool.{Bool, false, true}
 use mathlib.Core.List.{List, [], _++_, _∷_, append-assoc}
-use mathlib.Core.Logic.{inl, inr}
+use mathlib.Core.Logic.{_≢_, _⊎_, inl, inr}
 use mathlib.Core.Path.{_∙_, _≡_, ap, refl, subst, sym}
 use native.Mathlib.Decide.{decLt, ℕ-discrete}
 use native.Mathlib.Omega.{arith}
-use Rattle.decimal.proofs.Cases.{advance, first-of, take-head}
+use Rattle.decimal.proofs.Cases.{both-off, first-of, in-text}
 use Rattle.decimal.proofs.Decimal.{decimal-small, decimal-some}
-use Rattle.decimal.proofs.Numbers.{Digits, decimal-digits, decimal-head, decimal-value, digit-low, more-digit, value}
+use Rattle.decimal.proofs.Numbers.{Digits, decimal-digits, decimal-head, decimal-value, digit-low, more-digit, no-number, scan-end, scan-more, scan-none, value}
 use Rattle.decimal.specs.Exact.{Stands}
-use Rattle.decimal.specs.Number.{digitB}
+use Rattle.decimal.specs.Number.{capped, checked, digitB, numberOf, scanOf, stopped}
+use Rattle.decimal.specs.declared.Scan.{Scan}
+use Rattle.decimal.specs.declared.Num.the-variants.{Value, Wrong}
 use Rattle.decimal.specs.Text.{decimal}
-use Rattle.laws.proofs.Tests.{false-true}
+use Rattle.laws.proofs.Tests.{false-true, split}
 use Rattle.tree_text.specs.Text.{opening}
 
 -- ---- texts that begin alike
@@ -141,3 +145,53 @@ same-number s a c v e w p q st su =
                 stands-once s (a + 1) v e st w e (subst (λ (x : ℕ). Stands s (x + 1) w e) z su) .0
           ]
     ]
+
+-- ---- no number
+
+scan-on : (l : List ℕ) (v i : ℕ) → i ≤ scanOf l v i .at
+unfolding scanOf
+scan-on [] v i = omega arith
+scan-on (b ∷ l) v i =
+    elim (split (digitB b)) [
+      | inl p ↦ rw p (let h = scan-on l (capped v b) (i + 1) in omega arith)
+      | inr q ↦ rw q (omega arith)
+    ]
+
+checked-fine : (b at : ℕ) (run : Scan) → at < run .at → (b ≢ 48) ⊎ (run .at ≤ at + 1) → checked b at run ≡ Value (run .value) (run .at)
+unfolding checked
+checked-fine b at run h (inl z) = rw (lt-leb (run .at) at h, ne-eqb b 48 z)
+checked-fine b at run h (inr k) = rw (lt-leb (run .at) at h, le-ltb (at + 1) (run .at) k, both-off (eqb b 48))
+
+-- where no number stands there is no digit, or a leading zero
+pub no-number-there : (s : List ℕ) (at : ℕ) → numberOf s at ≡ Wrong → digitB (getD s at 0) ≡ true
+    → (getD s at 0 ≡ 48) × (digitB (getD s (at + 1) 0) ≡ true)
+unfolding numberOf
+no-number-there s at h d =
+    elim (split (digitB (getD s (at + 1) 0))) [
+      | inr q ↦ fine (inr (omega (arith, ap (λ (x : Scan). x .at) (more ∙ last q))))
+      | inl p ↦ elim (ℕ-discrete (getD s at 0) 48) [ yes z ↦ (z, p) | no z ↦ fine (inl z) ]
+    ]
+  where
+    b : ℕ
+    b = getD s at 0
+
+    run : Scan
+    run = scanOf (drop at s) 0 at
+
+    inside : at < length s
+    inside = in-text s at (omega (arith, digit-low b d))
+
+    more : run ≡ scanOf (drop (at + 1) s) (capped 0 b) (at + 1)
+    more = scan-more s at 0 inside d
+
+    last : digitB (getD s (at + 1) 0) ≡ false → scanOf (drop (at + 1) s) (capped 0 b) (at + 1) ≡ stopped (capped 0 b) (at + 1)
+    last q =
+        elim (decLt (at + 1) (length s)) [
+          | yes l ↦ scan-none s (at + 1) (capped 0 b) l q
+          | no g ↦ scan-end s (at + 1) (capped 0 b) (omega arith)
+        ]
+
+    fine : {A : Type 0} → (b ≢ 48) ⊎ (run .at ≤ at + 1) → A
+    fine w =
+        let some : at < run .at = omega (arith, scan-on (drop (at + 1) s) (capped 0 b) (at + 1), ap (λ (x : Scan). x .at) more) in
+        no-number (run .value) (run .at) (sym h ∙ checked-fine b at run some w)

@@ -150,7 +150,7 @@ apart : NotAForm ≡ UnknownNode → ⊥
 apart p = let z : _≡_ {A = ℕ} 0 1 = cc in omega arith
 
 -- not 6
-never : (s : List ℕ) (n p : ℕ) → (Large s n p → ⊥) → (NotAForm ≡ UnknownNode) ↔ Large s n p
+pub never : (s : List ℕ) (n p : ℕ) → (Large s n p → ⊥) → (NotAForm ≡ UnknownNode) ↔ Large s n p
 never s n p h = (λ z. absurd (apart z), λ w. absurd (h w))
 
 module _ (s : List ℕ) (n at : ℕ) (e : List ℕ) (low : ℕ) (places : length e ≡ 16) (lows : low ≤ 16) where
@@ -312,6 +312,11 @@ module _ (s : List ℕ) (n at : ℕ) (e : List ℕ) (low : ℕ) (places : length
 
 -- ---- faults in a list
 
+-- no number of n or more ends after a list, where none does before it
+pub calm : (s : List ℕ) (n : ℕ) (x : Nodes) (at end : ℕ) → drop at s ≡ nodesText x ++ drop end s → end ≡ at + length (nodesText x)
+    → (Large s n at → ⊥) → Large s n end → ⊥
+calm s n x at end is ends before w = before (w .0, quiet s x at (drop end s) is (w .0) (subst (NumberTo s (w .0)) ends (w .1)), w .2)
+
 module _ (s : List ℕ) (n at : ℕ) (e : List ℕ) (low : ℕ) where
   -- at its first node
   pub in-node : {f : Refusal} → getD s at 0 ≡ space → FaultAt s n (at + 1) (NodeText e low) f → FaultAt s n at (ListText e low) f
@@ -405,11 +410,8 @@ module _ (s : List ℕ) (n at : ℕ) (e : List ℕ) (low : ℕ) where
       stop s n at end (nodesText x) is ends (nodesText x ++ (closing ∷ [])) (closing ∷ [])
       (record { nodes = x; is = refl; ascends = a; fresh = fresh }) refl
       (λ v f w i j. list-below s n x at (drop end s) b is v f w i (omega (arith, some-digit s (w .at + 1) v f (w .number))))
-      no-more (never s n end large) (inr refl)
+      no-more (never s n end (calm s n x at end is ends before)) (inr refl)
     where
-      large : Large s n end → ⊥
-      large w = before (w .0, quiet s x at (drop end s) is (w .0) (subst (NumberTo s (w .0)) ends (w .1)), w .2)
-
       no-more : (t z q : List ℕ) → ListText e low t → t ++ z ≡ nodesText x ++ q → getD q 0 0 ≡ getD s end 0 → Complete s n (end + 1) → ⊥
       no-more t z q g h byte c =
           let all = sym (append-assoc (nodesText (g .nodes)) (closing ∷ []) z) ∙ (ap (λ (l : List ℕ). l ++ z) (sym (g .is)) ∙ h) in

@@ -31,7 +31,7 @@ module _ (s : List ℕ) (n : ℕ) (n16 : n ≤ 16) where
         | inr q ↦ then-no r F (q .0) (q .1) ∙ sym (then-no r G (q .0) (q .1))
       ]
 
-  value : (k by : ℕ) → k < 16 → by ≤ 16 → cond (eqb by 16) k by < 16
+  pub value : (k by : ℕ) → k < 16 → by ≤ 16 → cond (eqb by 16) k by < 16
   value k by hk hb =
       elim (ℕ-discrete by 16) [
         | yes p ↦ subst (λ (x : ℕ). x < 16) (sym (let z : cond (eqb by 16) k by ≡ k = rw (eq-eqb by 16 p) in z)) hk

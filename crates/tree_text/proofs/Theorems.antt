@@ -81,13 +81,13 @@ read-few n s h = read-none n s (rw (le-ltb 0 n (omega arith)))
 pub read-many : (n : ℕ) (s : List ℕ) → 16 < n → readOf n s ≡ nothing NodeCount
 read-many n s h = read-none n s (rw (lt-ltb 0 n (omega arith), lt-leb n 16 h))
 
-end-fine : (s : List ℕ) (m : Reading) → m .verdict ≡ Accepted → m .at ≡ length s → endOf s m ≡ given (m .engager) (m .node)
+pub end-fine : (s : List ℕ) (m : Reading) → m .verdict ≡ Accepted → m .at ≡ length s → endOf s m ≡ given (m .engager) (m .node)
 end-fine s m a h = rw (a, eq-eqb (m .at) (length s) h)
 
-end-short : (s : List ℕ) (m : Reading) → m .verdict ≡ Accepted → m .at ≢ length s → endOf s m ≡ nothing NotAForm
+pub end-short : (s : List ℕ) (m : Reading) → m .verdict ≡ Accepted → m .at ≢ length s → endOf s m ≡ nothing NotAForm
 end-short s m a h = rw (a, ne-eqb (m .at) (length s) h)
 
-end-refused : (s : List ℕ) (m : Reading) (e : Refusal) → m .verdict ≡ Refused e → endOf s m ≡ nothing e
+pub end-refused : (s : List ℕ) (m : Reading) (e : Refusal) → m .verdict ≡ Refused e → endOf s m ≡ nothing e
 end-refused s m e a = rw a
 
 read-of : (n : ℕ) (s : List ℕ) → readOf n s .verdict ≡ Accepted → Read n s
