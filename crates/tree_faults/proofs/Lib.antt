@@ -2,3 +2,4 @@ pub mod Numbers
 pub mod Nodes
 pub mod Places
 pub mod Reader
+pub mod Theorems

@@ -5,7 +5,7 @@ use lib.Dec.{eqb}
 use lib.ListN.{List·getD-append, drop, getD, length, length-append}
 use lib.Seq.{getD-drop}
 use mathlib.Core.Bool.{Bool, false, true}
-use mathlib.Core.List.{List, [], _++_, _∷_, append-assoc}
+use mathlib.Core.List.{List, [], _++_, _∷_, append-assoc, append-nil}
 use mathlib.Core.Logic.{_≢_, _⊎_, inl, inr}
 use mathlib.Core.Path.{_∙_, _≡_, ap, refl, subst, sym}
 use native.Mathlib.Decide.{decLt, ℕ-discrete}
@@ -37,6 +37,16 @@ longer (x ∷ t) D (y ∷ u) v e h =
     let p = heads x y (t ++ D) (u ++ v) e in
     let r = longer t D u v (p .1) (omega arith) in
     (r .0, ap (λ (l : List ℕ). y ∷ l) (r .1) ∙ ap (λ (a : ℕ). a ∷ (t ++ r .0)) (sym (p .0)), r .2)
+
+pub same-front : (t D u v : List ℕ) → t ++ D ≡ u ++ v → length t ≡ length u → t ≡ u
+same-front t D u v e h =
+    let L = longer t D u v e (omega arith) in
+    let size : length u ≡ length t + length (L .0) = simp length-append at (ap length (L .1)) in
+    sym (append-nil t) ∙ (ap (λ (l : List ℕ). t ++ l) (sym (nil-of (L .0) (omega arith))) ∙ sym (L .1))
+  where
+    nil-of : (d : List ℕ) → length d ≡ 0 → d ≡ []
+    nil-of [] z = refl
+    nil-of (x ∷ d) z = absurd (let y : ⊥ = omega arith in y)
 
 -- ---- the number that a text begins with
 

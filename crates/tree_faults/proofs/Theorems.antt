@@ -1,0 +1,283 @@
+-- `FirstFault`. Assumes nothing.
+use Prim.Native.Nat.{_+_, _<_, _≤_, ℕ}
+use lib.Dec.{eqb}
+use lib.ListN.{List·getD-append, drop, getD, length, length-append, length-drop, take, take-append-drop}
+use lib.Seq.{drop-append-le, length-take-le, take-append-seam}
+use mathlib.Core.Bool.{cond}
+use mathlib.Core.List.{List, [], _++_, _∷_, append-assoc, append-nil}
+use mathlib.Core.Logic.{_↔_, _≢_, inl, inr}
+use mathlib.Core.Path.{_∙_, _≡_, ap, refl, subst, sym}
+use native.Mathlib.Decide.{decLt, ℕ-discrete}
+use native.Mathlib.Nat.{zero-add}
+use native.Mathlib.Omega.{arith}
+use Rattle.decimal.proofs.Cases.{advance, first-of, take-head}
+use Rattle.decimal.proofs.Decimal.{decimal-some}
+use Rattle.decimal.specs.Exact.{Stands}
+use Rattle.decimal.specs.Number.{digitB}
+use Rattle.decimal.specs.Text.{decimal}
+use Rattle.refusal.proofs.Table.{not-both}
+use Rattle.refusal.specs.declared.Refusal.{Refusal}
+use Rattle.refusal.specs.declared.Refusal.the-variants.{NotAForm, UnknownNode}
+use Rattle.refusal.specs.declared.Verdict.{Verdict}
+use Rattle.refusal.specs.declared.Verdict.the-variants.{Accepted, Refused}
+use Rattle.tree_faults.proofs.Nodes.{ListOf, first-alike, list-below, list-of, listed, no-digit, no-number-to, number-below, stands-from, used, used-most, used-none, used-set}
+use Rattle.tree_faults.proofs.Numbers.{longer, same-front, some-digit}
+use Rattle.tree_faults.proofs.Places.{FaultAt, Large, NodeText, never}
+use Rattle.tree_faults.proofs.Reader.{root-fault}
+use Rattle.tree_faults.specs.Theorems.{Begins, Fault, FirstFault, NumberTo, WholeText}
+use Rattle.tree_faults.specs.Trees.{AllBelow, Nodes, Tree, node, nodesText, none, times, treeText}
+use Rattle.tree_text.proofs.Given.{node-read}
+use Rattle.tree_text.proofs.Lists.{Lists, alone, alone-places, bare, blank}
+use Rattle.tree_text.proofs.Printed.{node-next}
+use Rattle.tree_text.proofs.Steps.{verdict-of}
+use Rattle.tree_text.proofs.Taken.{taken}
+use Rattle.tree_text.proofs.Theorems.{end-fine, end-refused, end-short, read-end, read-exact}
+use Rattle.tree_text.proofs.Trees.{tree-lists}
+use Rattle.tree_text.specs.Read.{endOf, fresh, nodeOf, nothing, readOf}
+use Rattle.tree_text.specs.Text.{closing, listText, opening, space, textOf}
+use Rattle.tree_text.specs.Theorems.{EngagementTree}
+use Rattle.tree_text.specs.declared.Found.{Found}
+use Rattle.tree_text.specs.declared.Reading.{Reading}
+
+-- ---- a number in a beginning, and in the whole text
+
+module _ (s u v : List ℕ) (is : s ≡ u ++ v) where
+  byte-same : (i : ℕ) → i < length u → getD s i 0 ≡ getD u i 0
+  byte-same i h = ap (λ (l : List ℕ). getD l i 0) is ∙ List·getD-append u v 0 i h
+
+  left-over : (i : ℕ) → i ≤ length u → drop i s ≡ drop i u ++ v
+  left-over i h = ap (drop i) is ∙ drop-append-le i u v h
+
+  widen : (x e : ℕ) → e < length u → NumberTo u x e → NumberTo s x e
+  widen x e h w =
+      let d = some-digit u (w .at + 1) x e (w .number) in
+      record {
+        at = w .at;
+        bracket = byte-same (w .at) (omega arith) ∙ w .bracket;
+        number = record {
+          text = left-over (w .at + 1) (omega arith)
+              ∙ (ap (λ (l : List ℕ). l ++ v) (w .number .text)
+              ∙ (append-assoc (decimal x) (drop e u) v ∙ ap (λ (l : List ℕ). decimal x ++ l) (sym (left-over e (omega arith)))));
+          ends = w .number .ends;
+          last = ap digitB (byte-same e h) ∙ w .number .last;
+        };
+      }
+
+  narrow : (x e : ℕ) → e < length u → NumberTo s x e → NumberTo u x e
+  narrow x e h w =
+      let d = some-digit s (w .at + 1) x e (w .number) in
+      let both : drop (w .at + 1) u ++ v ≡ (decimal x ++ drop e u) ++ v =
+      sym (left-over (w .at + 1) (omega arith))
+      ∙ (w .number .text ∙ (ap (λ (l : List ℕ). decimal x ++ l) (left-over e (omega arith)) ∙ sym (append-assoc (decimal x) (drop e u) v))) in
+      let size : length (drop (w .at + 1) u) ≡ length (decimal x ++ drop e u) =
+      simp (length-drop, length-append) (omega (arith, w .number .ends)) in
+      record {
+        at = w .at;
+        bracket = sym (byte-same (w .at) (omega arith)) ∙ w .bracket;
+        number = record {
+          text = same-front (drop (w .at + 1) u) v (decimal x ++ drop e u) v both size;
+          ends = w .number .ends;
+          last = ap digitB (sym (byte-same e h)) ∙ w .number .last;
+        };
+      }
+
+-- ---- the text of a tree, and its beginnings
+
+none-yet : (d : ℕ) → used blank d ≡ 0
+none-yet d = used-none blank d (bare d)
+
+root-used : (root d : ℕ) → root < 16 → used (alone root) d ≡ cond (eqb d root) 1 0
+root-used root d h = used-set blank root root d refl h h (bare root) ∙ omega (arith, none-yet d)
+
+whole-from : {n root : ℕ} {e t : List ℕ} → n ≤ 16 → root < n → Lists n root 0 (alone root) e t
+    → WholeText n (opening ∷ (decimal root ++ (t ++ (closing ∷ []))))
+whole-from {root = root} {e = e} n16 h lists =
+    let r16 : root < 16 = omega arith in
+    let Y = list-of n16 r16 (alone-places root) lists in
+    record {
+      root = root;
+      children = Y .nodes;
+      tree = record { ascends = Y .ascends; once = λ d. omega (arith, Y .uses d, root-used root d r16, used-most e d) };
+      numbers = (h, Y .below, tt);
+      text = ap (λ (l : List ℕ). opening ∷ (decimal root ++ (l ++ (closing ∷ [])))) (Y .text);
+    }
+
+tree-of : (n : ℕ) (e : List ℕ) (root : ℕ) → EngagementTree n e root → WholeText n (textOf e root)
+tree-of n e root T = subst (WholeText n) (sym (node-next 15 e root)) (whole-from (T .nodes) (T .root-in) (tree-lists n e root T))
+
+module _ (n : ℕ) (s : List ℕ) (W : WholeText n s) where
+  number-in : (v e : ℕ) → NumberTo s v e → v < n
+  number-in v e w =
+      elim (decLt (w .at) p) [
+        | yes l ↦ number-below s n 0 k p number (W .numbers .0) v e w (omega arith) l
+        | no g ↦
+            elim (decLt (w .at) (p + length list)) [
+              | yes l ↦ list-below s n (W .children) p (closing ∷ []) (W .numbers .1) stands v e w (omega arith) l
+              | no g₂ ↦ absurd (past (omega arith))
+            ]
+      ]
+    where
+      k : ℕ
+      k = W .root
+
+      p : ℕ
+      p = 1 + length (decimal k)
+
+      list : List ℕ
+      list = nodesText (W .children)
+
+      after : drop 1 s ≡ decimal k ++ (list ++ (closing ∷ []))
+      after = ap (drop 1) (W .text)
+
+      number : Stands s 1 k p
+      number = stands-from s 1 k (list ++ (closing ∷ [])) after (no-digit (W .children) [])
+
+      stands : drop p s ≡ list ++ (closing ∷ [])
+      stands = advance s (decimal k) (list ++ (closing ∷ [])) 1 after
+
+      past : p + length list ≤ w .at → ⊥
+      past h =
+          let size : length s ≡ p + length list + 1 = ap length (W .text) ∙ simp length-append (omega arith) in
+          let left = simp (length-drop, length-append) at (ap length (w .number .text)) in
+          omega (arith, decimal-some v, left)
+
+  begins-with : (u rest : List ℕ) → s ≡ u ++ rest → Begins n u
+  begins-with u rest is = record {
+    root = W .root;
+    children = W .children;
+    rest = rest;
+    tree = W .tree;
+    text = sym (W .text) ∙ is;
+    below = λ v e w h. number-in v e (widen s u rest is v e h w);
+  }
+
+  whole-read : 0 < n → n ≤ 16 → readOf n s .verdict ≡ Accepted
+  whole-read h k =
+      let root16 : W .root < 16 = omega (arith, W .numbers .0) in
+      let L = listed n (W .root) 0 (alone (W .root)) (W .children) k root16 (alone-places (W .root)) (W .tree .ascends) (W .numbers .1)
+      (λ d. omega (arith, W .tree .once d, root-used (W .root) d root16)) in
+      let m : Reading = record { verdict = Accepted; engager = L .last; at = length s; node = W .root } in
+      let read : nodeOf 16 s n fresh 16 0 ≡ m = node-read s n k 16 (W .root) (L .lists) (W .numbers .0) (omega arith) (W .text) in
+      ap (λ (x : Found). x .verdict) (read-end n s h k ∙ (ap (endOf s) read ∙ end-fine s m refl refl))
+
+-- ---- the fault
+
+fault-of : (n : ℕ) (s : List ℕ) (f : Refusal) → FaultAt s n 0 (NodeText blank 0) f → Fault n s f
+fault-of n s f F = record {
+  place = length (F .upto);
+  inside = omega (arith, simp length-append at (ap length (F .split)));
+  begins = subst (Begins n) (sym front) whole;
+  longest = longest;
+  six = subst (λ (x : ℕ). (f ≡ UnknownNode) ↔ Large s n x) (zero-add (length (F .upto))) (F .six);
+  ten = F .ten;
+}
+  where
+    front : take (length (F .upto)) s ≡ F .upto
+    front = ap (take (length (F .upto))) (F .split) ∙ take-append-seam (F .upto) (F .beyond)
+
+    whole : Begins n (F .upto)
+    whole = record {
+      root = F .fits .k;
+      children = F .fits .children;
+      rest = F .rest;
+      tree = record { ascends = F .fits .ascends; once = λ d. omega (arith, F .fits .fresh d) };
+      text = sym (F .fits .is) ∙ F .begins;
+      below = λ v e w h. F .below v e (widen s (F .upto) (F .beyond) (F .split) v e h w) (omega arith) (omega arith);
+    }
+
+    longest : (p : ℕ) → p ≤ length s → Begins n (take p s) → p ≤ length (F .upto)
+    longest p h B =
+        let u = take p s in
+        let is : s ≡ u ++ drop p s = sym (take-append-drop p s) in
+        let size : length u ≡ p = length-take-le p s h in
+        let T : NodeText blank 0 (treeText (B .root) (B .children)) = record {
+          k = B .root;
+          children = B .children;
+          is = refl;
+          order = omega arith;
+          ascends = B .tree .ascends;
+          fresh = λ d. omega (arith, B .tree .once d, none-yet d);
+        } in
+        let most = F .longest (treeText (B .root) (B .children)) [] u (drop p s) (B .rest) T is (append-nil _ ∙ B .text)
+        (λ v e w j. B .below v e (narrow s u (drop p s) is v e (omega arith) w) (omega arith)) in
+        omega (arith, most)
+
+-- something stands after the whole text of a tree
+too-long : (n : ℕ) (s w D : List ℕ) → WholeText n w → s ≡ w ++ D → Fault n s NotAForm
+too-long n s w D W is = record {
+  place = length w;
+  inside = omega (arith, simp length-append at (ap length is));
+  begins = subst (Begins n) (sym (ap (take (length w)) is ∙ take-append-seam w D)) (begins-with n w W w [] (sym (append-nil w)));
+  longest = λ p h B. elim (decLt (length w) p) [ no g ↦ omega arith | yes l ↦ absurd (longer-still p h B l) ];
+  six = never s n (length w) (λ x. no-number-to s q (ap digitB bracket) (x .0) (subst (NumberTo s (x .0)) last (x .1)));
+  ten = inr refl;
+}
+  where
+    k : ℕ
+    k = W .root
+
+    list : List ℕ
+    list = nodesText (W .children)
+
+    q : ℕ
+    q = 1 + length (decimal k) + length list
+
+    last : length w ≡ q + 1
+    last = ap length (W .text) ∙ simp length-append (omega arith)
+
+    goes-on : (l : List ℕ) → w ++ l ≡ opening ∷ (decimal k ++ (list ++ (closing ∷ l)))
+    goes-on l = ap (λ (x : List ℕ). x ++ l) (W .text) ∙ ap (λ (x : List ℕ). opening ∷ x) (simp append-assoc)
+
+    bracket : getD s q 0 ≡ closing
+    bracket =
+        let first : drop 1 s ≡ decimal k ++ (list ++ (closing ∷ D)) = ap (drop 1) (is ∙ goes-on D) in
+        take-head s q closing D
+        (advance s list (closing ∷ D) (1 + length (decimal k)) (advance s (decimal k) (list ++ (closing ∷ D)) 1 first)) .0
+
+    longer-still : (p : ℕ) → p ≤ length s → Begins n (take p s) → length w < p → ⊥
+    longer-still p h B l =
+        let size : length (take p s) ≡ p = length-take-le p s h in
+        let L = longer w D (take p s) (drop p s) (sym is ∙ sym (take-append-drop p s)) (omega arith) in
+        let more : length (take p s) ≡ length w + length (L .0) = simp length-append at (ap length (L .1)) in
+        let same : treeText (B .root) (B .children) ≡ w ++ (L .0 ++ B .rest) =
+        B .text ∙ (ap (λ (x : List ℕ). x ++ B .rest) (L .1) ∙ append-assoc w (L .0) (B .rest)) in
+        let A = first-alike (B .root) k (B .children) (W .children) [] (L .0 ++ B .rest)
+        (ap (λ (x : List ℕ). space ∷ x) (same ∙ goes-on (L .0 ++ B .rest))) in
+        omega (arith, simp length-append at (ap length (A .2)))
+
+refusal-of : {v : Verdict} {e f : Refusal} → v ≡ Refused e → v ≡ Refused f → f ≡ e
+refusal-of p q = cc
+
+refused-at : (n : ℕ) (s : List ℕ) (e : Refusal) → 0 < n → n ≤ 16 → readOf n s .verdict ≡ Refused e → Fault n s e
+refused-at n s e h n16 r =
+    elim (verdict-of (m .verdict)) [
+      | inr q ↦ subst (Fault n s) (so (q .0) (end-refused s m (q .0) (q .1))) (fault-of n s (q .0) (root-fault s n h n16 (q .0) (q .1)))
+      | inl a ↦
+          elim (ℕ-discrete (m .at) (length s)) [
+            | yes q ↦
+                absurd (not-both (ap (λ (x : Found). x .verdict) (read-end n s h n16 ∙ end-fine s m a q)) r)
+            | no q ↦
+                let T = taken s n n16 16 fresh m 16 0 refl a in
+                let whole = opening ∷ (decimal (T .k) ++ (T .text ++ (closing ∷ []))) in
+                let all : whole ++ drop (m .at) s ≡ opening ∷ (decimal (T .k) ++ (T .text ++ (closing ∷ drop (m .at) s))) =
+                ap (λ (x : List ℕ). opening ∷ x) (simp append-assoc) in
+                subst (Fault n s) (so NotAForm (end-short s m a q))
+                (too-long n s whole (drop (m .at) s) (whole-from n16 (T .inside) (T .nodes)) (T .stands ∙ sym all))
+          ]
+    ]
+  where
+    m : Reading
+    m = nodeOf 16 s n fresh 16 0
+
+    so : (f : Refusal) → endOf s m ≡ nothing f → f ≡ e
+    so f p = refusal-of r (ap (λ (x : Found). x .verdict) (read-end n s h n16 ∙ p))
+
+pub first-fault : FirstFault
+first-fault = record {
+  refused = refused-at;
+  accepted = λ n s h n16. (
+    λ a. subst (WholeText n) (sym (read-exact .is-text n s a)) (tree-of n (readOf n s .engager) (readOf n s .root) (read-exact .is-tree n s a)),
+    λ W. whole-read n s W h n16,
+  );
+  written = λ n e root u rest T is. begins-with n (textOf e root) (tree-of n e root T) u rest is;
+}
