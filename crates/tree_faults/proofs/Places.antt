@@ -17,7 +17,7 @@ use Rattle.refusal.specs.declared.Refusal.the-variants.{NotAForm, UnknownNode}
 use Rattle.laws.proofs.Tests.{false-true}
 use Rattle.tree_faults.proofs.Nodes.{Below, alike, elsewhere, first-alike, here, list-below, no-digit, no-list, no-number-to, number-below, opened, quiet, used, used-most, used-past}
 use Rattle.tree_faults.proofs.Numbers.{digit-inside, first, heads, hundred, longer, number-once, opening-no-digit, some-digit, stands-once, zero-only, zero-text}
-use Rattle.tree_faults.specs.Theorems.{NumberTo}
+use Rattle.tree_faults.specs.Theorems.{LargeTo, NumberTo}
 use Rattle.tree_faults.specs.Trees.{AllBelow, Ascends, Nodes, node, nodesText, none, times, treeText}
 use Rattle.tree_text.specs.Text.{closing, opening, space}
 
@@ -49,7 +49,7 @@ module _ (s : List ℕ) (n : ℕ) where
   Complete p = (v e : ℕ) → NumberTo s v e → e < p → v < n
 
   abbrev pub Large : ℕ → Type 0
-  Large p = (v : ℕ) × NumberTo s v p × (n ≤ v)
+  Large = LargeTo n s
 
   -- from `at` on, `upto` is the longest that a text of the form T begins with
   pub record FaultAt (at : ℕ) (T : List ℕ → Type 0) (f : Refusal) : Type 0 where
@@ -148,6 +148,12 @@ module _ (s : List ℕ) (n : ℕ) where
 
 apart : NotAForm ≡ UnknownNode → ⊥
 apart p = let z : _≡_ {A = ℕ} 0 1 = cc in omega arith
+
+-- 10 is all but 6
+pub ten-of : (s : List ℕ) (n p : ℕ) {f : Refusal} → (f ≡ UnknownNode) ↔ Large s n p → (f ≡ UnknownNode) ⊎ (f ≡ NotAForm)
+    → (f ≡ NotAForm) ↔ (Large s n p → ⊥)
+ten-of s n p six (inl u) = (λ t. absurd (apart (sym t ∙ u)), λ h. absurd (h (six .0 u)))
+ten-of s n p six (inr t) = (λ _ w. apart (sym t ∙ six .1 w), λ _. t)
 
 -- not 6
 pub never : (s : List ℕ) (n p : ℕ) → (Large s n p → ⊥) → (NotAForm ≡ UnknownNode) ↔ Large s n p

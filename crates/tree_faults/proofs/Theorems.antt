@@ -22,7 +22,7 @@ use Rattle.refusal.specs.declared.Verdict.{Verdict}
 use Rattle.refusal.specs.declared.Verdict.the-variants.{Accepted, Refused}
 use Rattle.tree_faults.proofs.Nodes.{ListOf, first-alike, list-below, list-of, listed, no-digit, no-number-to, number-below, stands-from, used, used-most, used-none, used-set}
 use Rattle.tree_faults.proofs.Numbers.{longer, same-front, some-digit}
-use Rattle.tree_faults.proofs.Places.{FaultAt, Large, NodeText, never}
+use Rattle.tree_faults.proofs.Places.{FaultAt, Large, NodeText, never, ten-of}
 use Rattle.tree_faults.proofs.Reader.{root-fault}
 use Rattle.tree_faults.specs.Theorems.{Begins, Fault, FirstFault, NumberTo, WholeText}
 use Rattle.tree_faults.specs.Trees.{AllBelow, Nodes, Tree, node, nodesText, none, times, treeText}
@@ -168,10 +168,13 @@ fault-of n s f F = record {
   inside = omega (arith, simp length-append at (ap length (F .split)));
   begins = subst (Begins n) (sym front) whole;
   longest = longest;
-  six = subst (λ (x : ℕ). (f ≡ UnknownNode) ↔ Large s n x) (zero-add (length (F .upto))) (F .six);
-  ten = F .ten;
+  six = six;
+  ten = ten-of s n (length (F .upto)) six (F .ten);
 }
   where
+    six : (f ≡ UnknownNode) ↔ Large s n (length (F .upto))
+    six = subst (λ (x : ℕ). (f ≡ UnknownNode) ↔ Large s n x) (zero-add (length (F .upto))) (F .six)
+
     front : take (length (F .upto)) s ≡ F .upto
     front = ap (take (length (F .upto))) (F .split) ∙ take-append-seam (F .upto) (F .beyond)
 
@@ -209,8 +212,8 @@ too-long n s w D W is = record {
   inside = omega (arith, simp length-append at (ap length is));
   begins = subst (Begins n) (sym (ap (take (length w)) is ∙ take-append-seam w D)) (begins-with n w W w [] (sym (append-nil w)));
   longest = λ p h B. elim (decLt (length w) p) [ no g ↦ omega arith | yes l ↦ absurd (longer-still p h B l) ];
-  six = never s n (length w) (λ x. no-number-to s q (ap digitB bracket) (x .0) (subst (NumberTo s (x .0)) last (x .1)));
-  ten = inr refl;
+  six = six;
+  ten = ten-of s n (length w) six (inr refl);
 }
   where
     k : ℕ
@@ -233,6 +236,9 @@ too-long n s w D W is = record {
         let first : drop 1 s ≡ decimal k ++ (list ++ (closing ∷ D)) = ap (drop 1) (is ∙ goes-on D) in
         take-head s q closing D
         (advance s list (closing ∷ D) (1 + length (decimal k)) (advance s (decimal k) (list ++ (closing ∷ D)) 1 first)) .0
+
+    six : (NotAForm ≡ UnknownNode) ↔ Large s n (length w)
+    six = never s n (length w) (λ x. no-number-to s q (ap digitB bracket) (x .0) (subst (NumberTo s (x .0)) last (x .1)))
 
     longer-still : (p : ℕ) → p ≤ length s → Begins n (take p s) → length w < p → ⊥
     longer-still p h B l =

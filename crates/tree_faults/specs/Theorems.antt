@@ -2,7 +2,7 @@
 use Prim.Native.Nat.{_+_, _<_, _≤_, ℕ}
 use lib.ListN.{getD, length, take}
 use mathlib.Core.List.{List, _++_}
-use mathlib.Core.Logic.{_↔_, _⊎_}
+use mathlib.Core.Logic.{_↔_}
 use mathlib.Core.Path.{_≡_}
 use Rattle.decimal.specs.Exact.{Stands}
 use Rattle.refusal.specs.declared.Refusal.{Refusal}
@@ -13,14 +13,17 @@ use Rattle.tree_text.specs.Read.{readOf}
 use Rattle.tree_text.specs.Text.{opening, textOf}
 use Rattle.tree_text.specs.Theorems.{EngagementTree}
 
--- the number v stands where a number belongs, right after an opening bracket, its last digit before `end`
+-- the number v stands where a number belongs, right after an opening bracket, its last digit right before `end`
 pub record NumberTo (s : List ℕ) (v end : ℕ) : Type 0 where
   pub at : ℕ
   pub bracket : getD s at 0 ≡ opening
   pub number : Stands s (at + 1) v end
 
--- u is the beginning of the text of a tree. A number that it has to its end, so that another byte of u follows, is below n; one that it
--- breaks off in, and those after u, may be of any size.
+abbrev pub LargeTo : ℕ → List ℕ → ℕ → Type 0
+LargeTo n s end = (v : ℕ) × NumberTo s v end × (n ≤ v)
+
+-- u is the beginning of the text of a tree. A number that is complete in u, so that another byte of u follows it, is below n; the one that
+-- u breaks off in, and those after u, may be of any size.
 pub record Begins (n : ℕ) (u : List ℕ) : Type 0 where
   pub root : ℕ
   pub children : Nodes
@@ -29,15 +32,17 @@ pub record Begins (n : ℕ) (u : List ℕ) : Type 0 where
   pub text : treeText root children ≡ u ++ rest
   pub below : (v end : ℕ) → NumberTo u v end → end < length u → v < n
 
--- the fault is right after the longest beginning of s that is the beginning of a tree's text
+-- the fault of a text that is refused with e
 pub record Fault (n : ℕ) (s : List ℕ) (e : Refusal) : Type 0 where
   pub place : ℕ
   pub inside : place ≤ length s
+  -- up to there s is the beginning of a tree's text, and no further
   pub begins : Begins n (take place s)
   pub longest : (p : ℕ) → p ≤ length s → Begins n (take p s) → p ≤ place
-  -- "where a number belongs, one without leading zero, read to its last digit, of N or more is 6, anything else .. is 10"
-  pub six : (e ≡ UnknownNode) ↔ ((v : ℕ) × NumberTo s v place × (n ≤ v))
-  pub ten : (e ≡ UnknownNode) ⊎ (e ≡ NotAForm)
+  -- "where a number belongs, one without leading zero, read to its last digit, of N or more is 6"
+  pub six : (e ≡ UnknownNode) ↔ LargeTo n s place
+  -- "anything else, such as a leading zero, a repeated board, other spacing or order, is 10"
+  pub ten : (e ≡ NotAForm) ↔ (LargeTo n s place → ⊥)
 
 -- s is the whole text of a tree with every number below n
 pub record WholeText (n : ℕ) (s : List ℕ) : Type 0 where
