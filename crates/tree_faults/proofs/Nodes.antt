@@ -5,7 +5,7 @@ use lib.Dec.{eqb}
 use lib.ListN.{List·getD-eq-default, drop, getD, length, length-append, length-set, set}
 use lib.Seq.{getD-set-other, getD-set-same}
 use mathlib.Core.Bool.{cond, false}
-use mathlib.Core.List.{List, [], _++_, _∷_, append-assoc}
+use mathlib.Core.List.{List, _++_, _∷_, append-assoc}
 use mathlib.Core.Logic.{_≢_}
 use mathlib.Core.Path.{_∙_, _≡_, ap, refl, subst, sym}
 use native.Mathlib.Decide.{decLt, ℕ-discrete}
@@ -131,7 +131,7 @@ list-of {k = k} {e = e} n16 k16 l (more {t = t} {u = u} c lc cn f a b) =
       nodes = node c (A .nodes) (B .nodes);
       text = ap (λ (x : List ℕ). space ∷ (opening ∷ (decimal c ++ (x ++ (closing ∷ u))))) (A .text)
           ∙ ap (λ (x : List ℕ). space ∷ (opening ∷ (decimal c ++ (nodesText (A .nodes) ++ (closing ∷ x))))) (B .text);
-      ascends = (lc, A .ascends, B .ascends);
+      ascends = (omega arith, A .ascends, B .ascends);
       below = (cn, A .below, B .below);
       uses = λ d. omega (arith, A .uses d, B .uses d, used-set e c k d l (omega arith) k16 f);
     }
@@ -147,6 +147,7 @@ pub listed : (n k low : ℕ) (e : List ℕ) (x : Nodes) → n ≤ 16 → k < 16 
 listed n k low e none n16 k16 l o b u = record { last = e; lists = nothing; uses = λ d. omega arith }
 listed n k low e (node c x y) n16 k16 l o b u =
     let c16 : c < 16 = omega (arith, b .0) in
+    let order : low ≤ c = omega (arith, o .0) in
     let f : getD e c 16 ≡ 16 = none-used e c (omega (arith, u c, here c c refl)) in
     let l′ = length-set e c k ∙ l in
     let set-uses : (d : ℕ) → used (set e c k) d ≡ used e d + cond (eqb d c) 1 0 = λ d. used-set e c k d l c16 k16 f in
@@ -154,7 +155,7 @@ listed n k low e (node c x y) n16 k16 l o b u =
     let B = listed n k (c + 1) (A .last) y n16 k16 (sized (A .lists) l′) (o .2) (b .2) (λ d. omega (arith, u d, set-uses d, A .uses d)) in
     record {
       last = B .last;
-      lists = more c (o .0) (b .0) f (A .lists) (B .lists);
+      lists = more c order (b .0) f (A .lists) (B .lists);
       uses = λ d. omega (arith, set-uses d, A .uses d, B .uses d);
     }
 

@@ -2,13 +2,13 @@
 use Prim.Native.Nat.{_*_, _+_, _<_, _≤_, ℕ}
 use lib.Dec.{eqb}
 use lib.ListN.{drop, getD, length, length-append}
-use mathlib.Core.Bool.{cond, false, true}
+use mathlib.Core.Bool.{cond, true}
 use mathlib.Core.List.{List, [], _++_, _∷_, append-assoc, append-nil}
 use mathlib.Core.Logic.{_↔_, _≢_, _⊎_, inl, inr}
 use mathlib.Core.Path.{_∙_, _≡_, ap, refl, subst, sym}
 use native.Mathlib.Decide.{decLt, ℕ-discrete}
 use native.Mathlib.Omega.{arith}
-use Rattle.decimal.proofs.Cases.{first-of, in-text, rest, take-head}
+use Rattle.decimal.proofs.Cases.{first-of, in-text, rest}
 use Rattle.decimal.specs.Exact.{Stands}
 use Rattle.decimal.specs.Number.{digitB}
 use Rattle.decimal.specs.Text.{decimal}

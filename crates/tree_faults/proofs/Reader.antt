@@ -1,10 +1,10 @@
 -- Where the reader refuses there is a fault, node by node. Assumes nothing.
-use Prim.Native.Nat.{_+_, _<_, _≤_, min, suc, zero, ℕ}
+use Prim.Native.Nat.{_+_, _<_, _≤_, suc, zero, ℕ}
 use lib.Dec.{eqb}
-use lib.ListN.{drop, getD, length, length-append, length-set, set}
-use mathlib.Core.Bool.{cond, false, true}
-use mathlib.Core.List.{List, [], _++_, _∷_}
-use mathlib.Core.Logic.{_≢_, _⊎_, inl, inr}
+use lib.ListN.{drop, getD, length, length-set, set}
+use mathlib.Core.Bool.{cond, true}
+use mathlib.Core.List.{List, _++_, _∷_}
+use mathlib.Core.Logic.{_≢_, inl, inr}
 use mathlib.Core.Path.{_∙_, _≡_, ap, refl, subst, sym}
 use native.Mathlib.Decide.{decLt, ℕ-discrete}
 use native.Mathlib.Omega.{arith}
@@ -20,14 +20,14 @@ use Rattle.refusal.proofs.Table.{not-both}
 use Rattle.refusal.specs.declared.Refusal.{Refusal}
 use Rattle.refusal.specs.declared.Refusal.the-variants.{NotAForm, UnknownNode}
 use Rattle.refusal.specs.declared.Verdict.the-variants.{Accepted, Refused}
-use Rattle.tree_faults.proofs.Nodes.{ListOf, list-of, no-number-to, node-size, none-used, opened, used, used-most, used-none, used-set}
+use Rattle.tree_faults.proofs.Nodes.{ListOf, list-of, no-number-to, node-size, none-used, opened, used, used-most, used-set}
 use Rattle.tree_faults.proofs.Numbers.{first, no-number-there, same-number, some-digit, zero-only, zero-text}
 use Rattle.tree_faults.proofs.Places.{FaultAt, Large, ListText, NodeText, calm, in-list, in-node, in-rest, never, no-bracket, no-number, not-closed, number-refused, zero-led}
 use Rattle.tree_faults.specs.Theorems.{NumberTo}
 use Rattle.tree_faults.specs.Trees.{node, nodesText, none, times}
 use Rattle.tree_text.proofs.Depth.{value}
 use Rattle.tree_text.proofs.Lists.{blank, free, free-falls, free-most, free-set, sized}
-use Rattle.tree_text.proofs.Steps.{body-is, close-no, close-yes, enter-again, enter-large, enter-low, enter-new, enter-wrong, list-next, list-none, list-zero, node-no, node-yes, then-no, then-yes, verdict-of}
+use Rattle.tree_text.proofs.Steps.{body-is, close-no, close-yes, enter-again, enter-large, enter-low, enter-new, enter-wrong, list-next, list-none, node-no, node-yes, then-no, then-yes, verdict-of}
 use Rattle.tree_text.proofs.Taken.{NodeTaken, list-taken, taken}
 use Rattle.tree_text.specs.Read.{andThen, bodyOf, closed, entered, fresh, listOf, nodeOf, placed, refused, stepped}
 use Rattle.tree_text.specs.Text.{closing, opening, space}

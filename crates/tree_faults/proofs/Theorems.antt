@@ -5,12 +5,12 @@ use lib.ListN.{List·getD-append, drop, getD, length, length-append, length-drop
 use lib.Seq.{drop-append-le, length-take-le, take-append-seam}
 use mathlib.Core.Bool.{cond}
 use mathlib.Core.List.{List, [], _++_, _∷_, append-assoc, append-nil}
-use mathlib.Core.Logic.{_↔_, _≢_, inl, inr}
+use mathlib.Core.Logic.{_↔_, inl, inr}
 use mathlib.Core.Path.{_∙_, _≡_, ap, refl, subst, sym}
 use native.Mathlib.Decide.{decLt, ℕ-discrete}
 use native.Mathlib.Nat.{zero-add}
 use native.Mathlib.Omega.{arith}
-use Rattle.decimal.proofs.Cases.{advance, first-of, take-head}
+use Rattle.decimal.proofs.Cases.{advance, take-head}
 use Rattle.decimal.proofs.Decimal.{decimal-some}
 use Rattle.decimal.specs.Exact.{Stands}
 use Rattle.decimal.specs.Number.{digitB}
@@ -20,12 +20,12 @@ use Rattle.refusal.specs.declared.Refusal.{Refusal}
 use Rattle.refusal.specs.declared.Refusal.the-variants.{NotAForm, UnknownNode}
 use Rattle.refusal.specs.declared.Verdict.{Verdict}
 use Rattle.refusal.specs.declared.Verdict.the-variants.{Accepted, Refused}
-use Rattle.tree_faults.proofs.Nodes.{ListOf, first-alike, list-below, list-of, listed, no-digit, no-number-to, number-below, stands-from, used, used-most, used-none, used-set}
+use Rattle.tree_faults.proofs.Nodes.{first-alike, list-below, list-of, listed, no-digit, no-number-to, number-below, stands-from, used, used-most, used-none, used-set}
 use Rattle.tree_faults.proofs.Numbers.{longer, same-front, some-digit}
 use Rattle.tree_faults.proofs.Places.{FaultAt, Large, NodeText, never, ten-of}
 use Rattle.tree_faults.proofs.Reader.{root-fault}
 use Rattle.tree_faults.specs.Theorems.{Begins, Fault, FirstFault, NumberTo, WholeText}
-use Rattle.tree_faults.specs.Trees.{AllBelow, Nodes, Tree, node, nodesText, none, times, treeText}
+use Rattle.tree_faults.specs.Trees.{node, nodesText, treeText}
 use Rattle.tree_text.proofs.Given.{node-read}
 use Rattle.tree_text.proofs.Lists.{Lists, alone, alone-places, bare, blank}
 use Rattle.tree_text.proofs.Printed.{node-next}
@@ -34,7 +34,7 @@ use Rattle.tree_text.proofs.Taken.{taken}
 use Rattle.tree_text.proofs.Theorems.{end-fine, end-refused, end-short, read-end, read-exact}
 use Rattle.tree_text.proofs.Trees.{tree-lists}
 use Rattle.tree_text.specs.Read.{endOf, fresh, nodeOf, nothing, readOf}
-use Rattle.tree_text.specs.Text.{closing, listText, opening, space, textOf}
+use Rattle.tree_text.specs.Text.{closing, opening, space, textOf}
 use Rattle.tree_text.specs.Theorems.{EngagementTree}
 use Rattle.tree_text.specs.declared.Found.{Found}
 use Rattle.tree_text.specs.declared.Reading.{Reading}
@@ -81,10 +81,55 @@ module _ (s u v : List ℕ) (is : s ≡ u ++ v) where
         };
       }
 
--- ---- the text of a tree, and its beginnings
+-- ---- a fault of the root is one of the text
 
 none-yet : (d : ℕ) → used blank d ≡ 0
 none-yet d = used-none blank d (bare d)
+
+fault-of : (n : ℕ) (s : List ℕ) (f : Refusal) → FaultAt s n 0 (NodeText blank 0) f → Fault n s f
+fault-of n s f F = record {
+  place = length (F .upto);
+  inside = omega (arith, simp length-append at (ap length (F .split)));
+  begins = subst (Begins n) (sym front) whole;
+  longest = longest;
+  six = six;
+  ten = ten-of s n (length (F .upto)) six (F .ten);
+}
+  where
+    six : (f ≡ UnknownNode) ↔ Large s n (length (F .upto))
+    six = subst (λ (x : ℕ). (f ≡ UnknownNode) ↔ Large s n x) (zero-add (length (F .upto))) (F .six)
+
+    front : take (length (F .upto)) s ≡ F .upto
+    front = ap (take (length (F .upto))) (F .split) ∙ take-append-seam (F .upto) (F .beyond)
+
+    whole : Begins n (F .upto)
+    whole = record {
+      root = F .fits .k;
+      children = F .fits .children;
+      rest = F .rest;
+      tree = record { ascends = F .fits .ascends; once = λ d. omega (arith, F .fits .fresh d) };
+      text = sym (F .fits .is) ∙ F .begins;
+      below = λ v e w h. omega (arith, F .below v e (widen s (F .upto) (F .beyond) (F .split) v e (omega arith) w) (omega arith) (omega arith));
+    }
+
+    longest : (p : ℕ) → p ≤ length s → Begins n (take p s) → p ≤ length (F .upto)
+    longest p h B =
+        let u = take p s in
+        let is : s ≡ u ++ drop p s = sym (take-append-drop p s) in
+        let size : length u ≡ p = length-take-le p s h in
+        let T : NodeText blank 0 (treeText (B .root) (B .children)) = record {
+          k = B .root;
+          children = B .children;
+          is = refl;
+          order = omega arith;
+          ascends = B .tree .ascends;
+          fresh = λ d. omega (arith, B .tree .once d, none-yet d);
+        } in
+        let most = F .longest (treeText (B .root) (B .children)) [] u (drop p s) (B .rest) T is (append-nil _ ∙ B .text)
+        (λ v e w j. omega (arith, B .below v e (narrow s u (drop p s) is v e (omega arith) w) (omega arith))) in
+        omega (arith, most)
+
+-- ---- the text of a tree, and its beginnings
 
 root-used : (root d : ℕ) → root < 16 → used (alone root) d ≡ cond (eqb d root) 1 0
 root-used root d h = used-set blank root root d refl h h (bare root) ∙ omega (arith, none-yet d)
@@ -148,7 +193,7 @@ module _ (n : ℕ) (s : List ℕ) (W : WholeText n s) where
     rest = rest;
     tree = W .tree;
     text = sym (W .text) ∙ is;
-    below = λ v e w h. number-in v e (widen s u rest is v e h w);
+    below = λ v e w h. omega (arith, number-in v e (widen s u rest is v e (omega arith) w));
   }
 
   whole-read : 0 < n → n ≤ 16 → readOf n s .verdict ≡ Accepted
@@ -159,51 +204,6 @@ module _ (n : ℕ) (s : List ℕ) (W : WholeText n s) where
       let m : Reading = record { verdict = Accepted; engager = L .last; at = length s; node = W .root } in
       let read : nodeOf 16 s n fresh 16 0 ≡ m = node-read s n k 16 (W .root) (L .lists) (W .numbers .0) (omega arith) (W .text) in
       ap (λ (x : Found). x .verdict) (read-end n s h k ∙ (ap (endOf s) read ∙ end-fine s m refl refl))
-
--- ---- the fault
-
-fault-of : (n : ℕ) (s : List ℕ) (f : Refusal) → FaultAt s n 0 (NodeText blank 0) f → Fault n s f
-fault-of n s f F = record {
-  place = length (F .upto);
-  inside = omega (arith, simp length-append at (ap length (F .split)));
-  begins = subst (Begins n) (sym front) whole;
-  longest = longest;
-  six = six;
-  ten = ten-of s n (length (F .upto)) six (F .ten);
-}
-  where
-    six : (f ≡ UnknownNode) ↔ Large s n (length (F .upto))
-    six = subst (λ (x : ℕ). (f ≡ UnknownNode) ↔ Large s n x) (zero-add (length (F .upto))) (F .six)
-
-    front : take (length (F .upto)) s ≡ F .upto
-    front = ap (take (length (F .upto))) (F .split) ∙ take-append-seam (F .upto) (F .beyond)
-
-    whole : Begins n (F .upto)
-    whole = record {
-      root = F .fits .k;
-      children = F .fits .children;
-      rest = F .rest;
-      tree = record { ascends = F .fits .ascends; once = λ d. omega (arith, F .fits .fresh d) };
-      text = sym (F .fits .is) ∙ F .begins;
-      below = λ v e w h. F .below v e (widen s (F .upto) (F .beyond) (F .split) v e h w) (omega arith) (omega arith);
-    }
-
-    longest : (p : ℕ) → p ≤ length s → Begins n (take p s) → p ≤ length (F .upto)
-    longest p h B =
-        let u = take p s in
-        let is : s ≡ u ++ drop p s = sym (take-append-drop p s) in
-        let size : length u ≡ p = length-take-le p s h in
-        let T : NodeText blank 0 (treeText (B .root) (B .children)) = record {
-          k = B .root;
-          children = B .children;
-          is = refl;
-          order = omega arith;
-          ascends = B .tree .ascends;
-          fresh = λ d. omega (arith, B .tree .once d, none-yet d);
-        } in
-        let most = F .longest (treeText (B .root) (B .children)) [] u (drop p s) (B .rest) T is (append-nil _ ∙ B .text)
-        (λ v e w j. B .below v e (narrow s u (drop p s) is v e (omega arith) w) (omega arith)) in
-        omega (arith, most)
 
 -- something stands after the whole text of a tree
 too-long : (n : ℕ) (s w D : List ℕ) → WholeText n w → s ≡ w ++ D → Fault n s NotAForm
