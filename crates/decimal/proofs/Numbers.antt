@@ -225,7 +225,7 @@ number-found s at n u p k =
     rw (run, lt-leb (at + length (decimal n)) at some, not-led s at n u p)
 
 -- 5. exact both ways
-after : (s : List ℕ) (e : ℕ) → digitB (getD s e 0) ≡ false → digitB (getD (drop e s) 0 0) ≡ false
+pub after : (s : List ℕ) (e : ℕ) → digitB (getD s e 0) ≡ false → digitB (getD (drop e s) 0 0) ≡ false
 after s e h = ap digitB (sym (first-of s (drop e s) e refl)) ∙ h
 
 number-back : (s : List ℕ) (at v e : ℕ) → NumberAt s at v e → numberOf s at ≡ Value v e

@@ -5,7 +5,7 @@ use lib.Dec.{eqb}
 use lib.ListN.{List·getD-eq-default, drop, getD, length, length-append, length-set, set}
 use lib.Seq.{getD-set-other, getD-set-same}
 use mathlib.Core.Bool.{cond, false}
-use mathlib.Core.List.{List, _++_, _∷_, append-assoc}
+use mathlib.Core.List.{List, [], _++_, _∷_, append-assoc}
 use mathlib.Core.Logic.{_≢_}
 use mathlib.Core.Path.{_∙_, _≡_, ap, refl, subst, sym}
 use native.Mathlib.Decide.{decLt, ℕ-discrete}
@@ -27,7 +27,10 @@ pub no-digit : (x : Nodes) (z : List ℕ) → digitB (getD (nodesText x ++ (clos
 no-digit none z = refl
 no-digit (node k x y) z = refl
 
--- a list that is not empty, with what follows it
+-- a node with what follows it, and a list that is not empty
+pub node-then : (d t w : List ℕ) → (opening ∷ (d ++ (t ++ (closing ∷ [])))) ++ w ≡ opening ∷ (d ++ (t ++ (closing ∷ w)))
+node-then d t w = ap (λ (l : List ℕ). opening ∷ l) (simp append-assoc)
+
 pub opened : (k : ℕ) (x y : Nodes) (w : List ℕ)
     → nodesText (node k x y) ++ w ≡ space ∷ (opening ∷ (decimal k ++ (nodesText x ++ (closing ∷ (nodesText y ++ w)))))
 opened k x y w = simp append-assoc

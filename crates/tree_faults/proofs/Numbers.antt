@@ -2,17 +2,17 @@
 use Prim.Native.Nat.{_*_, _+_, _-_, _<_, _≤_, suc, zero, ℕ}
 use borrow.Author.Tests.{le-ltb, lt-leb, ne-eqb}
 use lib.Dec.{eqb}
-use lib.ListN.{List·getD-append, drop, getD, length, length-append}
+use lib.ListN.{List·getD-append, drop, getD, length}
 use lib.Seq.{getD-drop}
 use mathlib.Core.Bool.{false, true}
-use mathlib.Core.List.{List, [], _++_, _∷_, append-assoc, append-nil}
+use mathlib.Core.List.{List, [], _++_, _∷_, append-assoc}
 use mathlib.Core.Logic.{_≢_, _⊎_, inl, inr}
 use mathlib.Core.Path.{_∙_, _≡_, ap, refl, subst, sym}
 use native.Mathlib.Decide.{decLt, ℕ-discrete}
 use native.Mathlib.Omega.{arith}
-use Rattle.decimal.proofs.Cases.{both-off, first-of, in-text}
+use Rattle.decimal.proofs.Cases.{both-off, in-text}
 use Rattle.decimal.proofs.Decimal.{decimal-small, decimal-some}
-use Rattle.decimal.proofs.Numbers.{Digits, decimal-digits, decimal-head, decimal-value, digit-low, more-digit, no-number, scan-end, scan-more, scan-none, value}
+use Rattle.decimal.proofs.Numbers.{Digits, after, decimal-digits, decimal-head, decimal-value, digit-low, more-digit, no-number, scan-end, scan-more, scan-none, value}
 use Rattle.decimal.specs.Exact.{Stands}
 use Rattle.decimal.specs.Number.{capped, checked, digitB, numberOf, scanOf, stopped}
 use Rattle.decimal.specs.declared.Scan.{Scan}
@@ -39,14 +39,12 @@ longer (x ∷ t) D (y ∷ u) v e h =
     (r .0, ap (λ (l : List ℕ). y ∷ l) (r .1) ∙ ap (λ (a : ℕ). a ∷ (t ++ r .0)) (sym (p .0)), r .2)
 
 pub same-front : (t D u v : List ℕ) → t ++ D ≡ u ++ v → length t ≡ length u → t ≡ u
-same-front t D u v e h =
-    let L = longer t D u v e (omega arith) in
-    let size : length u ≡ length t + length (L .0) = simp length-append at (ap length (L .1)) in
-    sym (append-nil t) ∙ (ap (λ (l : List ℕ). t ++ l) (sym (nil-of (L .0) (omega arith))) ∙ sym (L .1))
-  where
-    nil-of : (d : List ℕ) → length d ≡ 0 → d ≡ []
-    nil-of [] z = refl
-    nil-of (x ∷ d) z = absurd (let y : ⊥ = omega arith in y)
+same-front [] D [] v e h = refl
+same-front [] D (y ∷ u) v e h = absurd (let y : ⊥ = omega arith in y)
+same-front (x ∷ t) D [] v e h = absurd (let y : ⊥ = omega arith in y)
+same-front (x ∷ t) D (y ∷ u) v e h =
+    let p = heads x y (t ++ D) (u ++ v) e in
+    ap (λ (l : List ℕ). x ∷ l) (same-front t D u v (p .1) (omega arith)) ∙ ap (λ (a : ℕ). a ∷ u) (p .0)
 
 -- ---- the number that a text begins with
 
@@ -130,11 +128,8 @@ module _ (s : List ℕ) (at v e : ℕ) (st : Stands s at v e) where
   -- the number ends where it is followed by no digit, so there is but one
   pub stands-once : (c f : ℕ) → Stands s at c f → (c ≡ v) × (f ≡ e)
   stands-once c f sc =
-      let r = number-once c v (drop f s) (drop e s) (after f (sc .last)) (after e (st .last)) (sym (sc .text) ∙ st .text) in
+      let r = number-once c v (drop f s) (drop e s) (after s f (sc .last)) (after s e (st .last)) (sym (sc .text) ∙ st .text) in
       (r .0, sc .ends ∙ (ap (λ (x : ℕ). at + length (decimal x)) (r .0) ∙ sym (st .ends)))
-    where
-      after : (x : ℕ) → digitB (getD s x 0) ≡ false → digitB (getD (drop x s) 0 0) ≡ false
-      after x h = ap digitB (sym (first-of s (drop x s) x refl)) ∙ h
 
 pub opening-no-digit : (s : List ℕ) (a : ℕ) → getD s a 0 ≡ opening → digitB (getD s a 0) ≡ true → ⊥
 opening-no-digit s a p q = omega (arith, digit-low (getD s a 0) q)

@@ -15,7 +15,7 @@ use Rattle.decimal.specs.Text.{decimal}
 use Rattle.refusal.specs.declared.Refusal.{Refusal}
 use Rattle.refusal.specs.declared.Refusal.the-variants.{NotAForm, UnknownNode}
 use Rattle.laws.proofs.Tests.{false-true}
-use Rattle.tree_faults.proofs.Nodes.{Below, alike, elsewhere, first-alike, here, list-below, no-digit, no-list, no-number-to, number-below, opened, quiet, used, used-most, used-past}
+use Rattle.tree_faults.proofs.Nodes.{Below, alike, elsewhere, first-alike, here, list-below, no-digit, no-list, no-number-to, node-then, number-below, opened, quiet, used, used-most, used-past}
 use Rattle.tree_faults.proofs.Numbers.{digit-inside, first, heads, hundred, longer, number-once, opening-no-digit, some-digit, stands-once, zero-only, zero-text}
 use Rattle.tree_faults.specs.Theorems.{LargeTo, NumberTo}
 use Rattle.tree_faults.specs.Trees.{AllBelow, Ascends, Nodes, node, nodesText, none, times, treeText}
@@ -200,10 +200,8 @@ module _ (s : List ℕ) (n at : ℕ) (e : List ℕ) (low : ℕ) (places : length
     inside : {t : List ℕ} (z q : List ℕ) (g : NodeText e low t) → t ++ z ≡ opening ∷ q
         → decimal (g .k) ++ (nodesText (g .children) ++ (closing ∷ z)) ≡ q
     inside z q g is =
-        let list = nodesText (g .children) in
-        let moved : (decimal (g .k) ++ (list ++ (closing ∷ []))) ++ z ≡ decimal (g .k) ++ (list ++ (closing ∷ z)) = simp append-assoc in
-        let all = ap (λ (l : List ℕ). l ++ z) (sym (g .is)) ∙ is in
-        sym moved ∙ heads opening opening ((decimal (g .k) ++ (list ++ (closing ∷ []))) ++ z) q all .1
+        heads opening opening _ q
+        (sym (node-then (decimal (g .k)) (nodesText (g .children)) z) ∙ (ap (λ (l : List ℕ). l ++ z) (sym (g .is)) ∙ is)) .1
 
     -- no digit of a number that may stand there
     pub no-number : ((k : ℕ) → low ≤ k → used e k ≡ 0 → first k .byte ≢ getD s (at + 1) 0) → FaultAt s n at (NodeText e low) NotAForm
@@ -238,7 +236,8 @@ module _ (s : List ℕ) (n at : ℕ) (e : List ℕ) (low : ℕ) (places : length
             let one = inside z (48 ∷ q) g is in
             let b = heads (F .byte) 48 _ q (ap (λ (l : List ℕ). l ++ more) (sym (F .text)) ∙ one) .0 in
             let none-left = zero-only (g .k) (F .more) (F .text ∙ ap (λ (x : ℕ). x ∷ F .more) b) in
-            let two = heads 48 48 more q (ap (λ (l : List ℕ). l ++ more) (sym zero-text) ∙ (ap (λ (x : ℕ). decimal x ++ more) (sym none-left) ∙ one)) .1 in
+            let zero-first = ap (λ (l : List ℕ). l ++ more) (sym zero-text) ∙ (ap (λ (x : ℕ). decimal x ++ more) (sym none-left) ∙ one) in
+            let two = heads 48 48 more q zero-first .1 in
             false-true (sym (ap (λ (l : List ℕ). digitB (getD l 0 0)) (sym two) ∙ no-digit (g .children) z) ∙ (ap digitB byte ∙ digit))
 
     module _ (v end : ℕ) (number : Stands s (at + 1) v end) where
@@ -273,7 +272,8 @@ module _ (s : List ℕ) (n at : ℕ) (e : List ℕ) (low : ℕ) (places : length
                     absurd y
                 | no q ↦
                     let some = some-digit s (x .at + 1) w g (x .number) in
-                    absurd (opening-no-digit s (x .at) (x .bracket) (digit-inside s (at + 1) v end number (x .at) (omega arith) (omega (arith, some))))
+                    let digit = digit-inside s (at + 1) v end number (x .at) (omega arith) (omega arith) in
+                    absurd (opening-no-digit s (x .at) (x .bracket) digit)
               ]
 
           no-more : (t z q : List ℕ) → NodeText e low t → t ++ z ≡ opening ∷ (decimal v ++ q) → getD q 0 0 ≡ getD s end 0 → Complete s n (end + 1) → ⊥
@@ -318,6 +318,9 @@ module _ (s : List ℕ) (n at : ℕ) (e : List ℕ) (low : ℕ) (places : length
 
 -- ---- faults in a list
 
+with-list : (x : Nodes) (t z q : List ℕ) → t ≡ nodesText x ++ (closing ∷ []) → t ++ z ≡ q → nodesText x ++ (closing ∷ z) ≡ q
+with-list x t z q g h = sym (append-assoc (nodesText x) (closing ∷ []) z) ∙ (ap (λ (l : List ℕ). l ++ z) (sym g) ∙ h)
+
 -- no number of n or more ends after a list, where none does before it
 pub calm : (s : List ℕ) (n : ℕ) (x : Nodes) (at end : ℕ) → drop at s ≡ nodesText x ++ drop end s → end ≡ at + length (nodesText x)
     → (Large s n at → ⊥) → Large s n end → ⊥
@@ -345,11 +348,10 @@ module _ (s : List ℕ) (n at : ℕ) (e : List ℕ) (low : ℕ) where
           → t ++ z ≡ space ∷ q → (u y : List ℕ) × NodeText e low u × (u ++ y ≡ q)
       unwrap none t z q g a fresh is = no-list z q (ap (λ (l : List ℕ). l ++ z) (sym g) ∙ is)
       unwrap (node k x x₂) t z q g a fresh is =
-          let moved : treeText k x ++ (nodesText x₂ ++ (closing ∷ z)) ≡ (opening ∷ (decimal k ++ (nodesText x ++ (closing ∷ nodesText x₂)))) ++ ((closing ∷ []) ++ z) =
-          ap (λ (l : List ℕ). opening ∷ l) (simp append-assoc) in
-          let all = sym (append-assoc (nodesText (node k x x₂)) (closing ∷ []) z) ∙ (ap (λ (l : List ℕ). l ++ z) (sym g) ∙ is) in (
+          let after = nodesText x₂ ++ (closing ∷ z) in
+          let all = sym (opened k x x₂ (closing ∷ z)) ∙ with-list (node k x x₂) t z (space ∷ q) g is in (
             treeText k x,
-            nodesText x₂ ++ (closing ∷ z),
+            after,
             record {
               k = k;
               children = x;
@@ -358,7 +360,7 @@ module _ (s : List ℕ) (n at : ℕ) (e : List ℕ) (low : ℕ) where
               ascends = a .1;
               fresh = λ d. omega (arith, fresh d);
             },
-            moved ∙ heads space space _ q all .1,
+            node-then (decimal k) (nodesText x) after ∙ heads space space _ q all .1,
           )
 
       below : Below s n at (at + 1)
@@ -392,7 +394,7 @@ module _ (s : List ℕ) (n at : ℕ) (e : List ℕ) (low : ℕ) where
       unwrap none t z q g c fresh h = no-list z _ (ap (λ (l : List ℕ). l ++ z) (sym g) ∙ h)
       unwrap (node j y y₂) t z q g c fresh h =
           let X = nodesText y₂ ++ (closing ∷ z) in
-          let all = sym (append-assoc (nodesText (node j y y₂)) (closing ∷ []) z) ∙ (ap (λ (l : List ℕ). l ++ z) (sym g) ∙ h) in
+          let all = with-list (node j y y₂) t z (nodesText (node k x none) ++ q) g h in
           let S = first-alike j k y x X q (sym (opened j y y₂ (closing ∷ z)) ∙ (all ∙ opened k x none q)) in (
             nodesText y₂ ++ (closing ∷ []),
             z,
@@ -420,6 +422,5 @@ module _ (s : List ℕ) (n at : ℕ) (e : List ℕ) (low : ℕ) where
     where
       no-more : (t z q : List ℕ) → ListText e low t → t ++ z ≡ nodesText x ++ q → getD q 0 0 ≡ getD s end 0 → Complete s n (end + 1) → ⊥
       no-more t z q g h byte c =
-          let all = sym (append-assoc (nodesText (g .nodes)) (closing ∷ []) z) ∙ (ap (λ (l : List ℕ). l ++ z) (sym (g .is)) ∙ h) in
-          let A = alike (g .nodes) x z q (λ p. ns (sym byte ∙ p)) all in
+          let A = alike (g .nodes) x z q (λ p. ns (sym byte ∙ p)) (with-list (g .nodes) t z (nodesText x ++ q) (g .is) h) in
           nc (sym byte ∙ ap (λ (l : List ℕ). getD l 0 0) (sym (A .1)))

@@ -19,6 +19,7 @@ use Rattle.laws.proofs.Tests.{false-true, split}
 use Rattle.refusal.proofs.Table.{not-both}
 use Rattle.refusal.specs.declared.Refusal.{Refusal}
 use Rattle.refusal.specs.declared.Refusal.the-variants.{NotAForm, UnknownNode}
+use Rattle.refusal.specs.declared.Verdict.{Verdict}
 use Rattle.refusal.specs.declared.Verdict.the-variants.{Accepted, Refused}
 use Rattle.tree_faults.proofs.Nodes.{ListOf, list-of, no-number-to, node-size, none-used, opened, used, used-most, used-set}
 use Rattle.tree_faults.proofs.Numbers.{first, no-number-there, same-number, some-digit, zero-only, zero-text}
@@ -33,9 +34,12 @@ use Rattle.tree_text.specs.Read.{andThen, bodyOf, closed, entered, fresh, listO
 use Rattle.tree_text.specs.Text.{closing, opening, space}
 use Rattle.tree_text.specs.declared.Reading.{Reading}
 
+pub same-refusal : {v : Verdict} {e f : Refusal} → v ≡ Refused e → v ≡ Refused f → e ≡ f
+same-refusal p q = cc
+
 -- a reading that is refused says why
 why : {m r : Reading} (e : Refusal) {f : Refusal} → m ≡ r → r .verdict ≡ Refused e → m .verdict ≡ Refused f → e ≡ f
-why e p q h = let z = sym (ap (λ (x : Reading). x .verdict) p ∙ q) ∙ h in cc
+why e p q = same-refusal (ap (λ (x : Reading). x .verdict) p ∙ q)
 
 module _ (s : List ℕ) (n : ℕ) (some : 0 < n) (n16 : n ≤ 16) where
   abbrev Faults : ℕ → Type 0
@@ -183,7 +187,9 @@ module _ (s : List ℕ) (n : ℕ) (some : 0 < n) (n16 : n ≤ 16) where
           by-value : NumberAt s (r .at + 1) k end → Answer
           by-value (v, st, is-v) =
               elim (decLt k n) [
-                | no g ↦ so UnknownNode (enter-large n r by low k end (omega arith)) (large (r .at) (r .engager) low places lows bracket v end st (omega arith))
+                | no g ↦
+                    so UnknownNode (enter-large n r by low k end (omega arith))
+                    (large (r .at) (r .engager) low places lows bracket v end st (omega arith))
                 | yes l ↦ small-number l (let p : v ≡ k = omega arith in subst (λ (x : ℕ). Stands s (r .at + 1) x end) p st)
               ]
             where

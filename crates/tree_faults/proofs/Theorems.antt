@@ -18,12 +18,11 @@ use Rattle.decimal.specs.Text.{decimal}
 use Rattle.refusal.proofs.Table.{not-both}
 use Rattle.refusal.specs.declared.Refusal.{Refusal}
 use Rattle.refusal.specs.declared.Refusal.the-variants.{NotAForm, UnknownNode}
-use Rattle.refusal.specs.declared.Verdict.{Verdict}
 use Rattle.refusal.specs.declared.Verdict.the-variants.{Accepted, Refused}
-use Rattle.tree_faults.proofs.Nodes.{first-alike, list-below, list-of, listed, no-digit, no-number-to, number-below, stands-from, used, used-most, used-none, used-set}
+use Rattle.tree_faults.proofs.Nodes.{first-alike, list-below, list-of, listed, no-digit, no-number-to, node-then, number-below, stands-from, used, used-most, used-none, used-set}
 use Rattle.tree_faults.proofs.Numbers.{longer, same-front, some-digit}
 use Rattle.tree_faults.proofs.Places.{FaultAt, Large, NodeText, never, ten-of}
-use Rattle.tree_faults.proofs.Reader.{root-fault}
+use Rattle.tree_faults.proofs.Reader.{root-fault, same-refusal}
 use Rattle.tree_faults.specs.Theorems.{Begins, Fault, FirstFault, NumberTo, WholeText}
 use Rattle.tree_faults.specs.Trees.{node, nodesText, treeText}
 use Rattle.tree_text.proofs.Given.{node-read}
@@ -229,7 +228,7 @@ too-long n s w D W is = record {
     last = ap length (W .text) ∙ simp length-append (omega arith)
 
     goes-on : (l : List ℕ) → w ++ l ≡ opening ∷ (decimal k ++ (list ++ (closing ∷ l)))
-    goes-on l = ap (λ (x : List ℕ). x ++ l) (W .text) ∙ ap (λ (x : List ℕ). opening ∷ x) (simp append-assoc)
+    goes-on l = ap (λ (x : List ℕ). x ++ l) (W .text) ∙ node-then (decimal k) list l
 
     bracket : getD s q 0 ≡ closing
     bracket =
@@ -251,9 +250,6 @@ too-long n s w D W is = record {
         (ap (λ (x : List ℕ). space ∷ x) (same ∙ goes-on (L .0 ++ B .rest))) in
         omega (arith, simp length-append at (ap length (A .2)))
 
-refusal-of : {v : Verdict} {e f : Refusal} → v ≡ Refused e → v ≡ Refused f → f ≡ e
-refusal-of p q = cc
-
 refused-at : (n : ℕ) (s : List ℕ) (e : Refusal) → 0 < n → n ≤ 16 → readOf n s .verdict ≡ Refused e → Fault n s e
 refused-at n s e h n16 r =
     elim (verdict-of (m .verdict)) [
@@ -264,11 +260,10 @@ refused-at n s e h n16 r =
                 absurd (not-both (ap (λ (x : Found). x .verdict) (read-end n s h n16 ∙ end-fine s m a q)) r)
             | no q ↦
                 let T = taken s n n16 16 fresh m 16 0 refl a in
+                let D = drop (m .at) s in
                 let whole = opening ∷ (decimal (T .k) ++ (T .text ++ (closing ∷ []))) in
-                let all : whole ++ drop (m .at) s ≡ opening ∷ (decimal (T .k) ++ (T .text ++ (closing ∷ drop (m .at) s))) =
-                ap (λ (x : List ℕ). opening ∷ x) (simp append-assoc) in
                 subst (Fault n s) (so NotAForm (end-short s m a q))
-                (too-long n s whole (drop (m .at) s) (whole-from n16 (T .inside) (T .nodes)) (T .stands ∙ sym all))
+                (too-long n s whole D (whole-from n16 (T .inside) (T .nodes)) (T .stands ∙ sym (node-then (decimal (T .k)) (T .text) D)))
           ]
     ]
   where
@@ -276,7 +271,7 @@ refused-at n s e h n16 r =
     m = nodeOf 16 s n fresh 16 0
 
     so : (f : Refusal) → endOf s m ≡ nothing f → f ≡ e
-    so f p = refusal-of r (ap (λ (x : Found). x .verdict) (read-end n s h n16 ∙ p))
+    so f p = same-refusal (ap (λ (x : Found). x .verdict) (read-end n s h n16 ∙ p)) r
 
 pub first-fault : FirstFault
 first-fault = record {
