@@ -51,19 +51,23 @@ module _ (s : List ℕ) (n : ℕ) where
   abbrev pub Large : ℕ → Type 0
   Large = LargeTo n s
 
-  -- from `at` on, `upto` is the longest that a text of the form T begins with
-  pub record FaultAt (at : ℕ) (T : List ℕ → Type 0) (f : Refusal) : Type 0 where
+  -- what stands from `at` to `place` is the longest that a text of the form T begins with
+  pub record FaultTo (at place : ℕ) (T : List ℕ → Type 0) (f : Refusal) : Type 0 where
     pub upto : List ℕ
+    pub ends : place ≡ at + length upto
     pub beyond : List ℕ
     pub split : drop at s ≡ upto ++ beyond
     pub text : List ℕ
     pub rest : List ℕ
     pub fits : T text
     pub begins : text ≡ upto ++ rest
-    pub below : (v e : ℕ) (w : NumberTo s v e) → at ≤ w .at → e < at + length upto → v < n
-    pub longest : (t z u v p : List ℕ) → T t → drop at s ≡ u ++ v → t ++ z ≡ u ++ p → Complete (at + length u) → length u ≤ length upto
-    pub six : (f ≡ UnknownNode) ↔ Large (at + length upto)
+    pub below : (v e : ℕ) (w : NumberTo s v e) → at ≤ w .at → e < place → v < n
+    pub longest : (t z u v p : List ℕ) → T t → drop at s ≡ u ++ v → t ++ z ≡ u ++ p → Complete (at + length u) → at + length u ≤ place
+    pub six : (f ≡ UnknownNode) ↔ Large place
     pub ten : (f ≡ UnknownNode) ⊎ (f ≡ NotAForm)
+
+  abbrev pub FaultAt : ℕ → (List ℕ → Type 0) → Refusal → Type 0
+  FaultAt at T f = (place : ℕ) × FaultTo at place T f
 
   -- ---- after the text `pre`
 
@@ -86,23 +90,24 @@ module _ (s : List ℕ) (n : ℕ) where
     pub stop : {T : List ℕ → Type 0} {f : Refusal} (text left : List ℕ) → T text → text ≡ pre ++ left
         → ((v e : ℕ) (w : NumberTo s v e) → at ≤ w .at → e < at′ → v < n)
         → ((t z q : List ℕ) → T t → t ++ z ≡ pre ++ q → getD q 0 0 ≡ getD s at′ 0 → Complete (at′ + 1) → ⊥)
-        → ((f ≡ UnknownNode) ↔ Large at′) → (f ≡ UnknownNode) ⊎ (f ≡ NotAForm) → FaultAt at T f
+        → ((f ≡ UnknownNode) ↔ Large at′) → (f ≡ UnknownNode) ⊎ (f ≡ NotAForm) → FaultTo at at′ T f
     stop {T} {f} text left fits begins below no-more six ten = record {
       upto = pre;
+      ends = there;
       beyond = drop at′ s;
       split = is;
       text = text;
       rest = left;
       fits = fits;
       begins = begins;
-      below = λ v e w i j. below v e w i (omega arith);
+      below = below;
       longest = λ t z u v p g d h c. elim (decLt (length pre) (length u)) [
         | no g₂ ↦ omega arith
         | yes l ↦
             let P = past t z u v p d h l in
             absurd (no-more t z (P .0 ++ p) g (P .3) (P .4) (λ a b k j. c a b k (omega arith)))
       ];
-      six = subst (λ (x : ℕ). (f ≡ UnknownNode) ↔ Large x) there six;
+      six = six;
       ten = ten;
     }
 
@@ -114,12 +119,12 @@ module _ (s : List ℕ) (n : ℕ) where
       abbrev pub Unwraps : Type 0
       Unwraps = (t z q : List ℕ) → T′ t → t ++ z ≡ pre ++ q → getD q 0 0 ≡ getD s at′ 0 → (u y : List ℕ) × T u × (u ++ y ≡ q)
 
-      pub lift : {f : Refusal} → Wraps → Unwraps → Below s n at at′ → FaultAt at′ T f → FaultAt at T′ f
-      lift {f} wrap unwrap below F =
+      pub lift : {place : ℕ} {f : Refusal} → Wraps → Unwraps → Below s n at at′ → FaultTo at′ place T f → FaultTo at place T′ f
+      lift {place} {f} wrap unwrap below F =
           let W = wrap (F .text) (F .fits) in
-          let size : at + length (pre ++ F .upto) ≡ at′ + length (F .upto) = simp length-append (omega arith) in
           record {
             upto = pre ++ F .upto;
+            ends = simp length-append (omega (arith, F .ends));
             beyond = F .beyond;
             split = is ∙ (ap (λ (l : List ℕ). pre ++ l) (F .split) ∙ sym (append-assoc pre (F .upto) (F .beyond)));
             text = pre ++ (F .text ++ W .0);
@@ -127,22 +132,22 @@ module _ (s : List ℕ) (n : ℕ) where
             fits = W .1;
             begins = ap (λ (l : List ℕ). pre ++ (l ++ W .0)) (F .begins) ∙ simp append-assoc;
             below = λ v e w i j.
-                elim (decLt (w .at) at′) [ yes l ↦ below v e w i l | no g ↦ F .below v e w (omega arith) (omega (arith, size)) ];
+                elim (decLt (w .at) at′) [ yes l ↦ below v e w i l | no g ↦ F .below v e w (omega arith) j ];
             longest = λ t z u v p g d h c.
-                elim (decLt (length pre) (length u)) [ no g₂ ↦ simp length-append (omega arith) | yes l ↦ further t z u v p g d h c l ];
-            six = subst (λ (x : ℕ). (f ≡ UnknownNode) ↔ Large x) (sym size) (F .six);
+                elim (decLt (length pre) (length u)) [ no g₂ ↦ omega (arith, F .ends) | yes l ↦ further t z u v p g d h c l ];
+            six = F .six;
             ten = F .ten;
           }
         where
           further : (t z u v p : List ℕ) → T′ t → drop at s ≡ u ++ v → t ++ z ≡ u ++ p → Complete (at + length u) → length pre < length u
-              → length u ≤ length (pre ++ F .upto)
+              → at + length u ≤ place
           further t z u v p g d h c l =
               let P = past t z u v p d h l in
               let w = P .0 in
               let size : length u ≡ length pre + length w = simp length-append at (ap length (P .1)) in
               let U = unwrap t z (w ++ p) g (P .3) (P .4) in
               let inner = F .longest (U .0) (U .1) w v p (U .2) (P .2) (U .3) (λ a b k j. c a b k (omega (arith, size))) in
-              simp length-append (omega (arith, inner, size))
+              omega (arith, inner, size)
 
 -- ---- faults at a node
 
@@ -184,7 +189,7 @@ module _ (s : List ℕ) (n at : ℕ) (e : List ℕ) (low : ℕ) (places : length
   too-soon p v f w i j h = absurd (let y : ⊥ = omega (arith, some-digit s (w .at + 1) v f (w .number)) in y)
 
   -- no opening bracket
-  pub no-bracket : getD s at 0 ≢ opening → (Large s n at → ⊥) → FaultAt s n at (NodeText e low) NotAForm
+  pub no-bracket : getD s at 0 ≢ opening → (Large s n at → ⊥) → FaultTo s n at at (NodeText e low) NotAForm
   no-bracket h quiet =
       stop s n at at [] refl (omega arith) (treeText 100 none) (treeText 100 none) (new 100 (omega arith)) refl
       (λ v f w i j. too-soon at v f w i j (omega arith)) no-more (never s n at quiet) (inr refl)
@@ -204,7 +209,8 @@ module _ (s : List ℕ) (n at : ℕ) (e : List ℕ) (low : ℕ) (places : length
         (sym (node-then (decimal (g .k)) (nodesText (g .children)) z) ∙ (ap (λ (l : List ℕ). l ++ z) (sym (g .is)) ∙ is)) .1
 
     -- no digit of a number that may stand there
-    pub no-number : ((k : ℕ) → low ≤ k → used e k ≡ 0 → first k .byte ≢ getD s (at + 1) 0) → FaultAt s n at (NodeText e low) NotAForm
+    pub no-number : ((k : ℕ) → low ≤ k → used e k ≡ 0 → first k .byte ≢ getD s (at + 1) 0)
+        → FaultTo s n at (at + 1) (NodeText e low) NotAForm
     no-number h =
         stop s n at (at + 1) (opening ∷ []) after-bracket refl (treeText 100 none) (decimal 100 ++ (closing ∷ [])) (new 100 (omega arith)) refl
         (λ v f w i j. too-soon (at + 1) v f w i j (omega arith)) no-more
@@ -218,7 +224,8 @@ module _ (s : List ℕ) (n at : ℕ) (e : List ℕ) (low : ℕ) (places : length
             ∙ (ap (λ (l : List ℕ). getD l 0 0) (inside z q g is) ∙ byte))
 
     -- a digit after 0
-    pub zero-led : getD s (at + 1) 0 ≡ 48 → digitB (getD s (at + 1 + 1) 0) ≡ true → low ≤ 0 → used e 0 ≡ 0 → FaultAt s n at (NodeText e low) NotAForm
+    pub zero-led : getD s (at + 1) 0 ≡ 48 → digitB (getD s (at + 1 + 1) 0) ≡ true → low ≤ 0 → used e 0 ≡ 0
+        → FaultTo s n at (at + 1 + 1) (NodeText e low) NotAForm
     zero-led zero-there digit o f =
         stop s n at (at + 1 + 1) (opening ∷ (48 ∷ [])) (after-bracket ∙ ap (λ (l : List ℕ). opening ∷ l) after-zero) (omega arith)
         (treeText 0 none) (closing ∷ []) (lone 0 o f) (ap (λ (l : List ℕ). opening ∷ (l ++ (closing ∷ []))) zero-text)
@@ -257,7 +264,7 @@ module _ (s : List ℕ) (n at : ℕ) (e : List ℕ) (low : ℕ) (places : length
       -- a number that may not stand there
       pub number-refused :
           (f : Refusal) → 0 < v → (low ≤ v → used e v ≡ 0 → Complete s n (end + 1) → ⊥)
-          → ((f ≡ UnknownNode) ↔ Large s n end) → (f ≡ UnknownNode) ⊎ (f ≡ NotAForm) → FaultAt s n at (NodeText e low) f
+          → ((f ≡ UnknownNode) ↔ Large s n end) → (f ≡ UnknownNode) ⊎ (f ≡ NotAForm) → FaultTo s n at end (NodeText e low) f
       number-refused f pos h six ten =
           stop s n at end (opening ∷ decimal v) after-number ends (treeText (v * 100) none) (48 ∷ (48 ∷ (closing ∷ []))) (new (v * 100) (omega arith))
           (ap (λ (l : List ℕ). opening ∷ l)
@@ -282,9 +289,9 @@ module _ (s : List ℕ) (n at : ℕ) (e : List ℕ) (low : ℕ) (places : length
               h (omega (arith, g .order)) (ap (used e) (sym w) ∙ unused g) c
 
       -- a fault in its list
-      pub in-list : {f : Refusal} (e′ : List ℕ) → v < n → low ≤ v → ((d : ℕ) → used e′ d ≡ used e d + cond (eqb d v) 1 0)
-          → FaultAt s n end (ListText e′ 0) f → FaultAt s n at (NodeText e low) f
-      in-list {f} e′ vn o adds =
+      pub in-list : {place : ℕ} {f : Refusal} (e′ : List ℕ) → v < n → low ≤ v → ((d : ℕ) → used e′ d ≡ used e d + cond (eqb d v) 1 0)
+          → FaultTo s n end place (ListText e′ 0) f → FaultTo s n at place (NodeText e low) f
+      in-list {place} {f} e′ vn o adds =
           lift s n at end (opening ∷ decimal v) after-number ends (ListText e′ 0) (NodeText e low) wrap unwrap
           (number-below s n at v end number vn)
         where
@@ -328,8 +335,9 @@ calm s n x at end is ends before w = before (w .0, quiet s x at (drop end s) is 
 
 module _ (s : List ℕ) (n at : ℕ) (e : List ℕ) (low : ℕ) where
   -- at its first node
-  pub in-node : {f : Refusal} → getD s at 0 ≡ space → FaultAt s n (at + 1) (NodeText e low) f → FaultAt s n at (ListText e low) f
-  in-node {f} gap =
+  pub in-node : {place : ℕ} {f : Refusal} → getD s at 0 ≡ space → FaultTo s n (at + 1) place (NodeText e low) f
+      → FaultTo s n at place (ListText e low) f
+  in-node {place} {f} gap =
       lift s n at (at + 1) (space ∷ []) (rest s at (in-text s at (omega arith)) ∙ ap (λ (b : ℕ). b ∷ drop (at + 1) s) gap) refl
       (NodeText e low) (ListText e low) wrap (λ t z q g is byte. unwrap (g .nodes) t z q (g .is) (g .ascends) (g .fresh) is) below
     where
@@ -369,11 +377,11 @@ module _ (s : List ℕ) (n at : ℕ) (e : List ℕ) (low : ℕ) where
           absurd (let y : ⊥ = omega (arith, w .bracket, ap (λ (a : ℕ). getD s a 0) p) in y)
 
   -- after its first node
-  pub in-rest : {f : Refusal} (e₁ : List ℕ) (k end : ℕ) (x : Nodes) → k < n → AllBelow n x → low ≤ k → Ascends 0 x
+  pub in-rest : {place : ℕ} {f : Refusal} (e₁ : List ℕ) (k end : ℕ) (x : Nodes) → k < n → AllBelow n x → low ≤ k → Ascends 0 x
       → ((d : ℕ) → used e₁ d ≡ used e d + times d (node k x none))
       → drop at s ≡ nodesText (node k x none) ++ drop end s → end ≡ at + length (nodesText (node k x none))
-      → FaultAt s n end (ListText e₁ (k + 1)) f → FaultAt s n at (ListText e low) f
-  in-rest {f} e₁ k end x kn b o a adds is ends =
+      → FaultTo s n end place (ListText e₁ (k + 1)) f → FaultTo s n at place (ListText e low) f
+  in-rest {place} {f} e₁ k end x kn b o a adds is ends =
       lift s n at end (nodesText (node k x none)) is ends (ListText e₁ (k + 1)) (ListText e low) wrap
       (λ t z q g h byte. unwrap (g .nodes) t z q (g .is) (g .ascends) (g .fresh) h) below
     where
@@ -413,7 +421,7 @@ module _ (s : List ℕ) (n at : ℕ) (e : List ℕ) (low : ℕ) where
   -- no closing bracket after it
   pub not-closed : (x : Nodes) (end : ℕ) → AllBelow n x → Ascends low x → ((d : ℕ) → used e d + times d x ≤ 1)
       → drop at s ≡ nodesText x ++ drop end s → end ≡ at + length (nodesText x) → getD s end 0 ≢ space → getD s end 0 ≢ closing
-      → (Large s n at → ⊥) → FaultAt s n at (ListText e low) NotAForm
+      → (Large s n at → ⊥) → FaultTo s n at end (ListText e low) NotAForm
   not-closed x end b a fresh is ends ns nc before =
       stop s n at end (nodesText x) is ends (nodesText x ++ (closing ∷ [])) (closing ∷ [])
       (record { nodes = x; is = refl; ascends = a; fresh = fresh }) refl

@@ -23,7 +23,7 @@ use Rattle.refusal.specs.declared.Verdict.{Verdict}
 use Rattle.refusal.specs.declared.Verdict.the-variants.{Accepted, Refused}
 use Rattle.tree_faults.proofs.Nodes.{ListOf, list-of, no-number-to, node-size, none-used, opened, used, used-most, used-set}
 use Rattle.tree_faults.proofs.Numbers.{first, no-number-there, same-number, some-digit, zero-only, zero-text}
-use Rattle.tree_faults.proofs.Places.{FaultAt, Large, ListText, NodeText, calm, in-list, in-node, in-rest, never, no-bracket, no-number, not-closed, number-refused, zero-led}
+use Rattle.tree_faults.proofs.Places.{FaultAt, FaultTo, Large, ListText, NodeText, calm, in-list, in-node, in-rest, never, no-bracket, no-number, not-closed, number-refused, zero-led}
 use Rattle.tree_faults.specs.Theorems.{NumberTo}
 use Rattle.tree_faults.specs.Trees.{node, nodesText, none, times}
 use Rattle.tree_text.proofs.Depth.{value}
@@ -53,7 +53,7 @@ module _ (s : List ℕ) (n : ℕ) (some : 0 < n) (n16 : n ≤ 16) where
   module _ (at : ℕ) (e : List ℕ) (low : ℕ) (places : length e ≡ 16) (lows : low ≤ 16) (bracket : getD s at 0 ≡ opening) where
     -- 0, which may not stand there
     no-zero : getD s (at + 1) 0 ≡ 48 → (low ≤ 0 → used e 0 ≡ 0 → ⊥) → FaultAt s n at (NodeText e low) NotAForm
-    no-zero byte no-place = no-number s n at e low places lows bracket no-digit
+    no-zero byte no-place = (at + 1, no-number s n at e low places lows bracket no-digit)
       where
         no-digit : (k : ℕ) → low ≤ k → used e k ≡ 0 → first k .byte ≢ getD s (at + 1) 0
         no-digit k o u p =
@@ -64,9 +64,7 @@ module _ (s : List ℕ) (n : ℕ) (some : 0 < n) (n16 : n ≤ 16) where
     wrong : numberOf s (at + 1) ≡ Wrong → FaultAt s n at (NodeText e low) NotAForm
     wrong h =
         elim (split (digitB (getD s (at + 1) 0))) [
-          | inr q ↦
-              no-number s n at e low places lows bracket
-              (λ k o u p. false-true (sym (ap digitB p ∙ q) ∙ first k .digit))
+          | inr q ↦ (at + 1, no-number s n at e low places lows bracket (λ k o u p. false-true (sym (ap digitB p ∙ q) ∙ first k .digit)))
           | inl d ↦ let w = no-number-there s (at + 1) h d in led (w .0) (w .1)
         ]
       where
@@ -76,25 +74,30 @@ module _ (s : List ℕ) (n : ℕ) (some : 0 < n) (n16 : n ≤ 16) where
               | no q ↦ no-zero byte (λ o u. omega arith)
               | yes p ↦
                   elim (ℕ-discrete (used e 0) 0) [
-                    | yes u ↦ zero-led s n at e low places lows bracket byte digit (omega arith) u
+                    | yes u ↦ (at + 1 + 1, zero-led s n at e low places lows bracket byte digit (omega arith) u)
                     | no q ↦ no-zero byte (λ o u. q u)
                   ]
             ]
 
     -- 6
-    large : (v end : ℕ) → Stands s (at + 1) v end → n ≤ v → FaultAt s n at (NodeText e low) UnknownNode
+    pub large : (v end : ℕ) → Stands s (at + 1) v end → n ≤ v → FaultTo s n at end (NodeText e low) UnknownNode
     large v end st h =
         let w : NumberTo s v end = record { at = at; bracket = bracket; number = st } in
         number-refused s n at e low places lows bracket v end st UnknownNode (omega arith)
         (λ o u c. let y = c v end w (omega arith) in omega arith) ((λ z. (v, w, h)), (λ z. refl)) (inl refl)
 
     -- no number of n or more ends where one below n does
-    small : (v end : ℕ) → Stands s (at + 1) v end → v < n → Large s n end → ⊥
+    pub small : (v end : ℕ) → Stands s (at + 1) v end → v < n → Large s n end → ⊥
     small v end st h w =
         let p = same-number s at (w .1 .at) v end (w .0) bracket (w .1 .bracket) st (w .1 .number) in
         omega (arith, w .2)
 
     -- 10
+    pub not-there : (v end : ℕ) → Stands s (at + 1) v end → v < n → 0 < v → (low ≤ v → used e v ≡ 0 → ⊥)
+        → FaultTo s n at end (NodeText e low) NotAForm
+    not-there v end st h pos no-place =
+        number-refused s n at e low places lows bracket v end st NotAForm pos (λ o u c. no-place o u) (never s n end (small v end st h)) (inr refl)
+
     not-now : (v end : ℕ) → Stands s (at + 1) v end → v < n → (low ≤ v → used e v ≡ 0 → ⊥) → FaultAt s n at (NodeText e low) NotAForm
     not-now v end st h no-place =
         elim (ℕ-discrete v 0) [
@@ -102,9 +105,7 @@ module _ (s : List ℕ) (n : ℕ) (some : 0 < n) (n16 : n ≤ 16) where
               let text : drop (at + 1) s ≡ 48 ∷ drop end s =
               st .text ∙ (ap (λ (x : ℕ). decimal x ++ drop end s) z ∙ ap (λ (l : List ℕ). l ++ drop end s) zero-text) in
               no-zero (first-of s (48 ∷ drop end s) (at + 1) text) (λ o u. no-place (omega arith) (ap (used e) z ∙ u))
-          | no z ↦
-              number-refused s n at e low places lows bracket v end st NotAForm (omega arith) (λ o u c. no-place o u)
-              (never s n end (small v end st h)) (inr refl)
+          | no z ↦ (end, not-there v end st h (omega arith) no-place)
         ]
 
   -- ---- a node
@@ -119,13 +120,8 @@ module _ (s : List ℕ) (n : ℕ) (some : 0 < n) (n16 : n ≤ 16) where
       body : (k end : ℕ) → getD s (r .at) 0 ≡ opening → Stands s (r .at + 1) k end → k < n → low ≤ k → getD (r .engager) k 16 ≡ 16
           → andThen (listOf left s n (placed r k by end) k 0) (closed s k) .verdict ≡ Refused f → Answer
       body k end bracket st kn o entry h =
-          in-list s n (r .at) (r .engager) low places lows bracket k end st (M .engager) kn o adds
-          (elim (verdict-of (L .verdict)) [
-            | inr q ↦
-                subst (FaultAt s n end (ListText (M .engager) 0)) (why (q .0) (then-no L (closed s k) (q .0) (q .1)) (q .1) h)
-                (lists M k 0 (q .0) refl sizes k16 (omega arith) (omega (arith, fewer)) quiet-here (q .1))
-            | inl a ↦ not-closing a
-          ])
+          let F = in-body in
+          (F .0, in-list s n (r .at) (r .engager) low places lows bracket k end st (M .engager) kn o adds (F .1))
         where
           M : Reading
           M = placed r k by end
@@ -159,11 +155,22 @@ module _ (s : List ℕ) (n : ℕ) (some : 0 < n) (n16 : n ≤ 16) where
                 | no q ↦
                     let T = list-taken s n n16 left M L k 0 k16 refl a in
                     let Y = list-of n16 k16 sizes (T .nodes) in
-                    subst (FaultAt s n end (ListText (M .engager) 0)) (why NotAForm (then-yes L (closed s k) a ∙ close-no s k L q) refl h)
-                    (not-closed s n end (M .engager) 0 (Y .nodes) (L .at) (Y .below) (Y .ascends)
-                    (λ d. omega (arith, Y .uses d, used-most (L .engager) d))
-                    (T .stands ∙ ap (λ (l : List ℕ). l ++ drop (L .at) s) (Y .text)) (T .end ∙ ap (λ (l : List ℕ). end + length l) (Y .text))
-                    (T .stop) q quiet-here)
+                    subst (FaultAt s n end (ListText (M .engager) 0)) (why NotAForm (then-yes L (closed s k) a ∙ close-no s k L q) refl h) (
+                      L .at,
+                      not-closed s n end (M .engager) 0 (Y .nodes) (L .at) (Y .below) (Y .ascends)
+                          (λ d. omega (arith, Y .uses d, used-most (L .engager) d))
+                          (T .stands ∙ ap (λ (l : List ℕ). l ++ drop (L .at) s) (Y .text)) (T .end ∙ ap (λ (l : List ℕ). end + length l) (Y .text))
+                          (T .stop) q quiet-here,
+                    )
+              ]
+
+          in-body : FaultAt s n end (ListText (M .engager) 0) f
+          in-body =
+              elim (verdict-of (L .verdict)) [
+                | inr q ↦
+                    subst (FaultAt s n end (ListText (M .engager) 0)) (why (q .0) (then-no L (closed s k) (q .0) (q .1)) (q .1) h)
+                    (lists M k 0 (q .0) refl sizes k16 (omega arith) (omega (arith, fewer)) quiet-here (q .1))
+                | inl a ↦ not-closing a
               ]
 
       -- its number is judged
@@ -189,7 +196,7 @@ module _ (s : List ℕ) (n : ℕ) (some : 0 < n) (n16 : n ≤ 16) where
               elim (decLt k n) [
                 | no g ↦
                     so UnknownNode (enter-large n r by low k end (omega arith))
-                    (large (r .at) (r .engager) low places lows bracket v end st (omega arith))
+                    (end, large (r .at) (r .engager) low places lows bracket v end st (omega arith))
                 | yes l ↦ small-number l (let p : v ≡ k = omega arith in subst (λ (x : ℕ). Stands s (r .at + 1) x end) p st)
               ]
             where
@@ -221,7 +228,7 @@ module _ (s : List ℕ) (n : ℕ) (some : 0 < n) (n16 : n ≤ 16) where
           elim (ℕ-discrete (getD s (r .at) 0) opening) [
             | no q ↦
                 subst (FaultAt s n (r .at) (NodeText (r .engager) low)) (why NotAForm (node-no left s n r by low q) refl h)
-                (no-bracket s n (r .at) (r .engager) low places lows q before)
+                (r .at, no-bracket s n (r .at) (r .engager) low places lows q before)
             | yes q ↦ numbered q (numberOf s (r .at + 1)) refl (ap (λ (x : Reading). x .verdict) (sym (node-yes left s n r by low q)) ∙ h)
           ]
 
@@ -235,9 +242,9 @@ module _ (s : List ℕ) (n : ℕ) (some : 0 < n) (n16 : n ≤ 16) where
         | yes q ↦
             elim (verdict-of (N .verdict)) [
               | inr w ↦
-                  in-node s n (r .at) (r .engager) low q
-                  (node-fault left lists (stepped r) k low f places (omega arith) lows (omega arith) (after-space q)
-                  (w .1 ∙ ap Refused (why (w .0) (list-next s n r k low left q ∙ then-no N after (w .0) (w .1)) (w .1) h)))
+                  let F = node-fault left lists (stepped r) k low f places (omega arith) lows (omega arith) (after-space q)
+                  (w .1 ∙ ap Refused (why (w .0) (list-next s n r k low left q ∙ then-no N after (w .0) (w .1)) (w .1) h)) in
+                  (F .0, in-node s n (r .at) (r .engager) low q (F .1))
               | inl a ↦ later q a (ap (λ (x : Reading). x .verdict) (sym (list-next s n r k low left q ∙ then-yes N after a)) ∙ h)
             ]
       ]
@@ -254,10 +261,12 @@ module _ (s : List ℕ) (n : ℕ) (some : 0 < n) (n16 : n ≤ 16) where
       -- the first node is read, and the nodes after it are refused
       later : getD s (r .at) 0 ≡ space → N .verdict ≡ Accepted → after N .verdict ≡ Refused f → FaultAt s n (r .at) (ListText (r .engager) low) f
       later q a g =
-          in-rest s n (r .at) (r .engager) low (N .engager) c (N .at) (Y .nodes) (T .inside) (Y .below) (T .order) (Y .ascends) uses is ends
-          (subst (λ (x : ℕ). FaultAt s n (N .at) (ListText (N .engager) (x + 1)) f) (T .node)
-          (lists N k (N .node + 1) f a (sized (T .nodes) sizes) k16 (omega (arith, T .node, T .inside)) (omega (arith, fewer, falls))
-          (calm s n (node c (Y .nodes) none) (r .at) (N .at) is ends before) g))
+          let F = lists N k (N .node + 1) f a (sized (T .nodes) sizes) k16 (omega (arith, T .node, T .inside)) (omega (arith, fewer, falls))
+          (calm s n (node c (Y .nodes) none) (r .at) (N .at) is ends before) g in (
+            F .0,
+            in-rest s n (r .at) (r .engager) low (N .engager) c (N .at) (Y .nodes) (T .inside) (Y .below) (T .order) (Y .ascends) uses is ends
+                (subst (λ (x : ℕ). FaultTo s n (N .at) (F .0) (ListText (N .engager) (x + 1)) f) (T .node) (F .1)),
+          )
         where
           T : NodeTaken s n (stepped r) N k low
           T = taken s n n16 left (stepped r) N k low refl a

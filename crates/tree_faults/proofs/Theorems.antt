@@ -8,7 +8,6 @@ use mathlib.Core.List.{List, [], _++_, _∷_, append-assoc, append-nil}
 use mathlib.Core.Logic.{_↔_, inl, inr}
 use mathlib.Core.Path.{_∙_, _≡_, ap, refl, subst, sym}
 use native.Mathlib.Decide.{decLt, ℕ-discrete}
-use native.Mathlib.Nat.{zero-add}
 use native.Mathlib.Omega.{arith}
 use Rattle.decimal.proofs.Cases.{advance, take-head}
 use Rattle.decimal.proofs.Decimal.{decimal-some}
@@ -21,7 +20,7 @@ use Rattle.refusal.specs.declared.Refusal.the-variants.{NotAForm, UnknownNode}
 use Rattle.refusal.specs.declared.Verdict.the-variants.{Accepted, Refused}
 use Rattle.tree_faults.proofs.Nodes.{first-alike, list-below, list-of, listed, no-digit, no-number-to, node-then, number-below, stands-from, used, used-most, used-none, used-set}
 use Rattle.tree_faults.proofs.Numbers.{longer, same-front, some-digit}
-use Rattle.tree_faults.proofs.Places.{FaultAt, Large, NodeText, never, ten-of}
+use Rattle.tree_faults.proofs.Places.{FaultAt, FaultTo, Large, NodeText, never, ten-of}
 use Rattle.tree_faults.proofs.Reader.{root-fault, same-refusal}
 use Rattle.tree_faults.specs.Theorems.{Begins, Fault, FirstFault, NumberTo, WholeText}
 use Rattle.tree_faults.specs.Trees.{node, nodesText, treeText}
@@ -85,21 +84,21 @@ module _ (s u v : List ℕ) (is : s ≡ u ++ v) where
 none-yet : (d : ℕ) → used blank d ≡ 0
 none-yet d = used-none blank d (bare d)
 
-fault-of : (n : ℕ) (s : List ℕ) (f : Refusal) → FaultAt s n 0 (NodeText blank 0) f → Fault n s f
-fault-of n s f F = record {
-  place = length (F .upto);
-  inside = omega (arith, simp length-append at (ap length (F .split)));
+fault-to : (n : ℕ) (s : List ℕ) (f : Refusal) (place : ℕ) → FaultTo s n 0 place (NodeText blank 0) f → Fault n s f
+fault-to n s f place F = record {
+  place = place;
+  inside = omega (arith, F .ends, simp length-append at (ap length (F .split)));
   begins = subst (Begins n) (sym front) whole;
   longest = longest;
-  six = six;
-  ten = ten-of s n (length (F .upto)) six (F .ten);
+  six = F .six;
+  ten = ten-of s n place (F .six) (F .ten);
 }
   where
-    six : (f ≡ UnknownNode) ↔ Large s n (length (F .upto))
-    six = subst (λ (x : ℕ). (f ≡ UnknownNode) ↔ Large s n x) (zero-add (length (F .upto))) (F .six)
+    size : place ≡ length (F .upto)
+    size = omega (arith, F .ends)
 
-    front : take (length (F .upto)) s ≡ F .upto
-    front = ap (take (length (F .upto))) (F .split) ∙ take-append-seam (F .upto) (F .beyond)
+    front : take place s ≡ F .upto
+    front = ap (take place) (F .split) ∙ (ap (λ (i : ℕ). take i (F .upto ++ F .beyond)) size ∙ take-append-seam (F .upto) (F .beyond))
 
     whole : Begins n (F .upto)
     whole = record {
@@ -111,7 +110,7 @@ fault-of n s f F = record {
       below = λ v e w h. omega (arith, F .below v e (widen s (F .upto) (F .beyond) (F .split) v e (omega arith) w) (omega arith) (omega arith));
     }
 
-    longest : (p : ℕ) → p ≤ length s → Begins n (take p s) → p ≤ length (F .upto)
+    longest : (p : ℕ) → p ≤ length s → Begins n (take p s) → p ≤ place
     longest p h B =
         let u = take p s in
         let is : s ≡ u ++ drop p s = sym (take-append-drop p s) in
@@ -253,7 +252,7 @@ too-long n s w D W is = record {
 refused-at : (n : ℕ) (s : List ℕ) (e : Refusal) → 0 < n → n ≤ 16 → readOf n s .verdict ≡ Refused e → Fault n s e
 refused-at n s e h n16 r =
     elim (verdict-of (m .verdict)) [
-      | inr q ↦ subst (Fault n s) (so (q .0) (end-refused s m (q .0) (q .1))) (fault-of n s (q .0) (root-fault s n h n16 (q .0) (q .1)))
+      | inr q ↦ subst (Fault n s) (so (q .0) (end-refused s m (q .0) (q .1))) (root-of (q .0) (root-fault s n h n16 (q .0) (q .1)))
       | inl a ↦
           elim (ℕ-discrete (m .at) (length s)) [
             | yes q ↦
@@ -269,6 +268,9 @@ refused-at n s e h n16 r =
   where
     m : Reading
     m = nodeOf 16 s n fresh 16 0
+
+    root-of : (f : Refusal) → FaultAt s n 0 (NodeText blank 0) f → Fault n s f
+    root-of f F = fault-to n s f (F .0) (F .1)
 
     so : (f : Refusal) → endOf s m ≡ nothing f → f ≡ e
     so f p = same-refusal (ap (λ (x : Found). x .verdict) (read-end n s h n16 ∙ p)) r
