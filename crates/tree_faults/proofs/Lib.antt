@@ -3,3 +3,4 @@ pub mod Nodes
 pub mod Places
 pub mod Reader
 pub mod Theorems
+pub mod Cases

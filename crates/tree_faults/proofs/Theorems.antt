@@ -249,6 +249,19 @@ too-long n s w D W is = record {
         (ap (λ (x : List ℕ). space ∷ x) (same ∙ goes-on (L .0 ++ B .rest))) in
         omega (arith, simp length-append at (ap length (A .2)))
 
+-- ---- a text has one place of fault
+
+one-place : {n : ℕ} {s : List ℕ} {f : Refusal} (F G : Fault n s f) → F .place ≡ G .place
+one-place F G = omega (arith, F .longest (G .place) (G .inside) (G .begins), G .longest (F .place) (F .inside) (F .begins))
+
+pub place-is : {n : ℕ} {s : List ℕ} {f : Refusal} {p : ℕ} → FaultTo s n 0 p (NodeText blank 0) f → (F : Fault n s f) → F .place ≡ p
+unfolding fault-to
+place-is {n} {s} {f} {p} G F = one-place F (fault-to n s f p G)
+
+pub place-after : {n : ℕ} {s w : List ℕ} (D : List ℕ) → WholeText n w → s ≡ w ++ D → (F : Fault n s NotAForm) → F .place ≡ length w
+unfolding too-long
+place-after {n} {s} {w} D W is F = one-place F (too-long n s w D W is)
+
 refused-at : (n : ℕ) (s : List ℕ) (e : Refusal) → 0 < n → n ≤ 16 → readOf n s .verdict ≡ Refused e → Fault n s e
 refused-at n s e h n16 r =
     elim (verdict-of (m .verdict)) [
