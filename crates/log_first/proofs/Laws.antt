@@ -37,7 +37,7 @@ use Rattle.tree_rules.proofs.Theorems as treeTheorems
 
 -- ---- the flags of a first line
 
-flag-small : (a b : Bool) → flagByte a b ≤ 3
+pub flag-small : (a b : Bool) → flagByte a b ≤ 3
 flag-small true true = omega arith
 flag-small true false = omega arith
 flag-small false true = omega arith

@@ -32,6 +32,8 @@ use Rattle.refusal.specs.declared.Verdict.{Verdict}
 use Rattle.refusal.specs.declared.Verdict.the-variants.{Accepted, Refused}
 use Rattle.runs.specs.Runs.{Accepts, Request, acceptedOf, next, runOf}
 use Rattle.tree_runs.specs.WholeRun.{stepsBy}
+use Rattle.log_runs.proofs.First.{asks-once, first-asks, first-told, ring-accepted, start-once, tree-accepted}
+use Rattle.log_runs.specs.First.{Asked, FirstAsks, cut, no-start}
 use Rattle.log_runs.specs.Says.{BegunOpen, RingSays, TreeSays, moveBy, movesIn, printed, stageAfter}
 use Rattle.log_runs.specs.Theorems.{LogRuns, Ok, RingCountdown}
 use Rattle.log_runs.specs.Says as says
@@ -271,6 +273,10 @@ tree-last t running k j {xs = xs} c a l ok =
 
 -- ---- the first line
 
+asks : {s l : List ℕ} {ls : List (List ℕ)} → LinesOf s (l ∷ ls) → (a : Asked) × FirstAsks l a
+asks (lines.last u h) = (no-start, cut u)
+asks (lines.another {l} o c) = first-asks l o
+
 first : (l : List ℕ) → BegunOpen (lineTold fresh 1 l .stage)
 unfolding lineTold
 first l = go (seenOf (firstAt l 0) .kind)
@@ -299,6 +305,11 @@ first l = go (seenOf (firstAt l 0) .kind)
 pub log-runs : LogRuns
 log-runs = record {
   output = output;
+  first-asks = asks;
+  first-once = λ {l} p q. asks-once (start-once l) p q;
+  first-told = first-told;
+  ring-started = ring-accepted;
+  tree-started = tree-accepted;
   first = first;
   taken = taken;
   ring-asks = ring-asks;

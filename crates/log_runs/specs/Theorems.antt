@@ -6,18 +6,21 @@ use mathlib.Core.List.{List, _++_, _∷_}
 use mathlib.Core.Logic.{_↔_}
 use mathlib.Core.Path.{_≡_}
 use Rattle.forms.specs.Form.{Says, announce}
-use Rattle.log_rules.specs.Answers.{Stage, answerText, fresh, lineTold, onRing, onTree}
+use Rattle.log_rules.specs.Answers.{Stage, answerText, fresh, lineTold, onRing, onTree, opened}
 use Rattle.log_rules.specs.Output.{linesTold}
 use Rattle.log_rules.specs.Theorems.{LinesOf}
 use Rattle.refusal.specs.declared.Verdict.the-variants.{Accepted}
 use Rattle.runs.specs.Runs.{Request, acceptedOf, runOf}
 use Rattle.tree_runs.specs.WholeRun.{stepsBy}
+use Rattle.log_runs.specs.First.{Asked, FirstAsks, begun, firstVerdict, flagsTo, ring-start, tree-start}
 use Rattle.log_runs.specs.Says.{BegunOpen, RingSays, TreeSays, movesIn, printed, stageAfter}
 use Rattle.ring_rules.specs.State as ringState
 use Rattle.ring_rules.specs.Soundness as ringSound
+use Rattle.ring_rules.specs.Start as ringStart
 use Rattle.ring_runs.specs.Counts as ringCounts
 use Rattle.tree_rules.specs.State as treeState
 use Rattle.tree_rules.specs.Soundness as treeSound
+use Rattle.tree_rules.specs.Start as treeStart
 use Rattle.tree_runs.specs.Counts as treeCounts
 
 -- the answer to a line, line j of a log that has come to s, is `(ok j)`
@@ -40,7 +43,17 @@ pub record LogRuns : Type 0 where
       (s : Stage) (k : ℕ) (ls : List (List ℕ)) (l : List ℕ) (rest : List (List ℕ))
       → linesTold s k (ls ++ (l ∷ rest))
       ≡ printed s k ls ++ (lineTold (stageAfter s k ls) (k + length ls) l .text ++ linesTold (lineTold (stageAfter s k ls) (k + length ls) l .stage) (k + length ls + 1) rest)
-  -- the first line begins an open run, or none
+  -- the first line asks for a start or for none, and for that alone
+  pub first-asks : {s l : List ℕ} {ls : List (List ℕ)} → LinesOf s (l ∷ ls) → (a : Asked) × FirstAsks l a
+  pub first-once : {l : List ℕ} {a b : Asked} → FirstAsks l a → FirstAsks l b → a ≡ b
+  -- it is answered by the first row of the table that applies, and where there is none it begins the run of that start
+  pub first-told : {l : List ℕ} {a : Asked} → FirstAsks l a → lineTold fresh 1 l ≡ opened (firstVerdict a) (begun a)
+  -- which is an accepted start, so that `from-start` and `RunsAgree` (crates ring_runs and tree_runs) speak of the run
+  pub ring-started :
+      (n : ℕ) (active black : List ℕ) → firstVerdict (ring-start n active black) ≡ Accepted
+      → ringStart.startVerdict n (flagsTo active black n) ≡ Accepted
+  pub tree-started : (n root : ℕ) → firstVerdict (tree-start n root) ≡ Accepted → treeStart.startVerdict n root ≡ Accepted
+  -- so the first line begins an open run, or none
   pub first : (l : List ℕ) → BegunOpen (lineTold fresh 1 l .stage)
   -- the lines that are read of a log, its first n, are the lines of a text too; and the lines of every text say requests
   pub taken : {s : List ℕ} {ls : List (List ℕ)} → LinesOf s ls → (n : ℕ) → (s′ : List ℕ) × LinesOf s′ (take n ls)
