@@ -17,6 +17,7 @@ use Rattle.log_rules.proofs.Ends.{ended-append, ended-itself, form-ende
 use Rattle.log_rules.specs.Answers.{Stage, Told, endText, fresh, lineTold, onRing, onTree, over}
 use Rattle.log_rules.specs.Lines.{lineLimit, split}
 use Rattle.log_rules.specs.Output.{linesTold, restOf}
+use Rattle.log_rules.specs.Theorems.{lineEnds}
 use Rattle.log_rules.specs.Pieces.{OneLine, PartLine, another, empty, hasLine, lineBytes, newline, notTold, preceded}
 
 -- ---- the lines of a text
@@ -40,6 +41,24 @@ split-line (preceded {b} {l} ne e) held s =
     split-next held b (l ++ s)
     ∙ (ap (λ (t : Bool). cond t ((held ++ (b ∷ [])) ∷ split [] (l ++ s)) (split (held ++ (b ∷ [])) (l ++ s))) (ne-eqb b 10 ne)
     ∙ (split-line e (held ++ (b ∷ [])) s ∙ ap (λ (x : List ℕ). x ∷ split [] s) (append-assoc held (b ∷ []) l)))
+
+-- what follows n ends of lines has no part in the first n lines
+pub split-take : (n : ℕ) (held s : List ℕ) → n ≤ lineEnds s → (more : List ℕ) → take n (split held (s ++ more)) ≡ take n (split held s)
+unfolding lineEnds
+split-take zero held s h more = refl
+split-take (suc n) held [] h more = absurd (let z : ⊥ = omega arith in z)
+split-take (suc n) held (b ∷ s) h more =
+    ap (take (suc n)) (split-next held b (s ++ more))
+    ∙ (go (eqb b 10) h (split-take n [] s) (split-take (suc n) (held ++ (b ∷ [])) s) ∙ ap (take (suc n)) (sym (split-next held b s)))
+  where
+    go :
+        (t : Bool) → suc n ≤ cond t 1 0 + lineEnds s
+        → (n ≤ lineEnds s → (more : List ℕ) → take n (split [] (s ++ more)) ≡ take n (split [] s))
+        → (suc n ≤ lineEnds s → (more : List ℕ) → take (suc n) (split (held ++ (b ∷ [])) (s ++ more)) ≡ take (suc n) (split (held ++ (b ∷ [])) s))
+        → take (suc n) (cond t ((held ++ (b ∷ [])) ∷ split [] (s ++ more)) (split (held ++ (b ∷ [])) (s ++ more)))
+        ≡ take (suc n) (cond t ((held ++ (b ∷ [])) ∷ split [] s) (split (held ++ (b ∷ [])) s))
+    go true h next same = ap (λ (ls : List (List ℕ)). (held ++ (b ∷ [])) ∷ ls) (next (omega arith) more)
+    go false h next same = same (omega arith) more
 
 -- ---- what is still to be written
 

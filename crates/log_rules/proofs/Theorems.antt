@@ -1,8 +1,9 @@
 -- The statements of specs/Theorems.antt, proved. Assumes nothing.
-use Prim.Native.Nat.{_+_, ℕ}
+use Prim.Native.Nat.{_+_, _<_, _≤_, ℕ}
 use borrow.Author.Tests.{eqb-false, eqb-true}
 use lib.Dec.{eqb}
-use lib.ListN.{length}
+use lib.ListN.{List·getD-eq-default, getD, length, length-take, take}
+use lib.Seq.{getD-take}
 use mathlib.Core.Bool.{Bool, cond, false, true}
 use mathlib.Core.List.{List, [], _++_, _∷_, append-assoc, append-nil}
 use mathlib.Core.Path.{_∙_, _≡_, ap, refl, subst, sym}
@@ -11,12 +12,13 @@ use Rattle.first_line.proofs.Opens.{first-exact, first-other}
 use Rattle.first_line.specs.Start.{Start, seen, startForm}
 use Rattle.forms.proofs.Steps.{ring-exact, ring-not, tree-exact, tree-not}
 use Rattle.forms.specs.Form.{Form, Says, formText, line, ringForm, treeForm}
-use Rattle.log_rules.proofs.Cuts.{long-told, unended-told}
-use Rattle.log_rules.proofs.Ends.{ended-append, ended-itself, form-ended, unended-append}
-use Rattle.log_rules.specs.Answers.{firstTold, lineTold}
-use Rattle.log_rules.specs.Lines.{split}
+use Rattle.log_rules.proofs.Cuts.{long-told, split-take, unended-told}
+use Rattle.log_rules.proofs.Ends.{ended-append, ended-itself, ended-long, form-ended, unended-append}
+use Rattle.log_rules.specs.Answers.{firstTold, fresh, lineTold}
+use Rattle.log_rules.specs.Lines.{lineLimit, split}
+use Rattle.log_rules.specs.Output.{linesTold, restOf}
 use Rattle.log_rules.specs.Pieces.{OneLine, PartLine, empty, newline}
-use Rattle.log_rules.specs.Theorems.{LinesCut, LinesOf, LinesSay}
+use Rattle.log_rules.specs.Theorems.{LinesCut, LinesOf, LinesRead, LinesSay}
 use Rattle.log_rules.specs.Pieces as pieces
 use Rattle.log_rules.specs.Theorems as lines
 
@@ -65,3 +67,21 @@ split-lines held (b ∷ s) u =
 
 pub lines-cut : LinesCut
 lines-cut = record { lines = λ s. split-lines [] s empty }
+
+line-bytes : {s l : List ℕ} {ls : List (List ℕ)} → LinesOf s (l ∷ ls) → 0 < length l
+line-bytes (lines.last u h) = h
+line-bytes (lines.another o c) = ended-long o
+
+taken-past : (n : ℕ) (ls : List (List ℕ)) (k : ℕ) → n ≤ k → getD (take n ls) k [] ≡ []
+taken-past n ls k h = List·getD-eq-default (take n ls) [] (omega (arith, length-take n ls))
+
+pub lines-read : LinesRead
+unfolding restOf
+lines-read = record {
+  output = λ s. refl;
+  read = λ s k h. getD-take lineLimit (split [] s) k [] h;
+  unread = λ s k h. taken-past lineLimit (split [] s) k h;
+  some-byte = line-bytes;
+  many = λ s. length-take lineLimit (split [] s);
+  after = λ s h more. ap (linesTold fresh 1) (split-take lineLimit [] s h more);
+}

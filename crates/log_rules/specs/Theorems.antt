@@ -1,7 +1,9 @@
 -- What is proved of the output of a log; the proofs are in proofs/Theorems.antt. With these laws a reader has to believe the printer of the
 -- forms (crate forms, Form.antt) and not their recognisers.
-use Prim.Native.Nat.{_<_, ℕ}
-use lib.ListN.{length}
+use Prim.Native.Nat.{_+_, _<_, _≤_, min, ℕ}
+use lib.Dec.{eqb}
+use lib.ListN.{getD, length}
+use mathlib.Core.Bool.{cond}
 use mathlib.Core.List.{List, [], _++_, _∷_}
 use mathlib.Core.Path.{_≡_}
 use Rattle.first_line.specs.Start.{Start, seen, startForm}
@@ -9,7 +11,8 @@ use Rattle.forms.specs.Form.{Says, ringForm, treeForm}
 use Rattle.forms.specs.declared.RingStep.{RingStep}
 use Rattle.forms.specs.declared.TreeStep.{TreeStep}
 use Rattle.log_rules.specs.Answers.{Stage, firstTold, fresh, lineTold, onRing, onTree, over, ringStepTold, treeStepTold}
-use Rattle.log_rules.specs.Lines.{split}
+use Rattle.log_rules.specs.Lines.{linesOf, split}
+use Rattle.log_rules.specs.Output.{linesTold, outputOf}
 use Rattle.log_rules.specs.Pieces.{OneLine, PartLine, lineBytes, notTold}
 use Rattle.ring_rules.specs.State as ring
 use Rattle.tree_rules.specs.State as tree
@@ -43,3 +46,21 @@ pub data LinesOf : List ℕ → List (List ℕ) → Type 0 where
 
 pub record LinesCut : Type 0 where
   pub lines : (s : List ℕ) → LinesOf s (split [] s)
+
+-- the bytes 10 of a text
+unfoldable pub lineEnds : List ℕ → ℕ
+lineEnds [] = 0
+lineEnds (b ∷ s) = cond (eqb b 10) 1 0 + lineEnds s
+
+-- "at most 1,000,000 lines; further lines are not read"
+pub record LinesRead : Type 0 where
+  -- the output is that of the lines that are read
+  pub output : (s : List ℕ) → outputOf s ≡ linesTold fresh 1 (linesOf s)
+  -- line k + 1 is the text's up to line 1,000,000; from k = 1,000,000 on there is none, and a line has at least one byte
+  pub read : (s : List ℕ) (k : ℕ) → k < 1000000 → getD (linesOf s) k [] ≡ getD (split [] s) k []
+  pub unread : (s : List ℕ) (k : ℕ) → 1000000 ≤ k → getD (linesOf s) k [] ≡ []
+  pub some-byte : {s l : List ℕ} {ls : List (List ℕ)} → LinesOf s (l ∷ ls) → 0 < length l
+  -- they are as many as the text has, and at most 1,000,000
+  pub many : (s : List ℕ) → length (linesOf s) ≡ min 1000000 (length (split [] s))
+  -- what follows the end of line 1,000,000 changes nothing
+  pub after : (s : List ℕ) → 1000000 ≤ lineEnds s → (more : List ℕ) → outputOf (s ++ more) ≡ outputOf s
