@@ -85,7 +85,7 @@ unfolding restOf linesTold
 rest-full st k h held s = let n : lineLimit - k ≡ 0 = omega arith in rw n
 
 -- "After a bad or missing first line the program prints only that refusal"
-lines-over : (k : ℕ) (ls : List (List ℕ)) → linesTold over k ls ≡ []
+pub lines-over : (k : ℕ) (ls : List (List ℕ)) → linesTold over k ls ≡ []
 unfolding linesTold lineTold
 lines-over k [] = refl
 lines-over k (l ∷ ls) = lines-over (k + 1) ls

@@ -1,2 +1,5 @@
 pub mod First
+pub mod Runs
+pub mod Detectors
 pub mod Theorems
+pub mod Whole

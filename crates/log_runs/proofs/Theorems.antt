@@ -12,15 +12,14 @@ use Rattle.first_line.specs.Read.{firstAt}
 use Rattle.first_line.specs.Start.{seenOf}
 use Rattle.first_line.specs.declared.First.{First}
 use Rattle.first_line.specs.declared.Kind.{Kind}
-use Rattle.forms.proofs.Steps.{ring-exact, ring-not, tree-exact, tree-not}
-use Rattle.forms.specs.Form.{Says, announce, ringForm, treeForm}
+use Rattle.forms.specs.Form.{Says, announce}
 use Rattle.forms.specs.Read.{ringAt, treeAt}
 use Rattle.forms.specs.declared.RingLine.{RingLine}
 use Rattle.forms.specs.declared.RingStep.{RingStep}
 use Rattle.forms.specs.declared.TreeLine.{TreeLine}
 use Rattle.laws.proofs.Tests.{both}
 use Rattle.log_first.proofs.Laws.{flags-fit, seen-flags}
-use Rattle.log_rules.proofs.Theorems.{lines-say, says-first, says-itself}
+use Rattle.log_rules.proofs.Theorems.{lines-say}
 use Rattle.log_rules.specs.Answers.{Stage, Told, answerText, firstTold, fresh, isMove, lineTold, onRing, onTree, ringRequest, ringTable, ringTold, treeRequest, treeTold}
 use Rattle.log_rules.specs.Output.{linesTold}
 use Rattle.log_rules.specs.Theorems.{LinesOf}
@@ -32,6 +31,9 @@ use Rattle.refusal.specs.declared.Verdict.{Verdict}
 use Rattle.refusal.specs.declared.Verdict.the-variants.{Accepted, Refused}
 use Rattle.runs.specs.Runs.{Accepts, Request, acceptedOf, next, runOf}
 use Rattle.tree_runs.specs.WholeRun.{stepsBy}
+use Rattle.log_runs.proofs.Detectors.{ring-says, ring-steps, tree-says, tree-steps}
+use Rattle.log_runs.proofs.Runs.{each-asks}
+use Rattle.log_runs.specs.Whole.{requestsIn}
 use Rattle.log_runs.proofs.First.{asks-once, first-asks, first-told, ring-accepted, start-once, tree-accepted}
 use Rattle.log_runs.specs.First.{Asked, FirstAsks, cut, no-start}
 use Rattle.log_runs.specs.Says.{BegunOpen, RingSays, TreeSays, moveBy, movesIn, printed, stageAfter}
@@ -98,28 +100,10 @@ taken (lines.last {l} u h) (suc n) = go n
 taken (lines.another {l} o c) (suc n) = let w = taken c n in (l ++ w .0, lines.another o (w .1))
 
 ring-asks : {s : List ℕ} {ls : List (List ℕ)} → LinesOf s ls → (xs : List Request) × RingSays ls xs
-ring-asks lines.no-line = ([], says.RingSays.no-line)
-ring-asks (lines.last u h) = ([], says.RingSays.cut u says.RingSays.no-line)
-ring-asks (lines.another {l} {ls = ls} o c) = go (ringAt l 0) refl (ring-asks c)
-  where
-    go : (x : RingLine) → ringAt l 0 ≡ x → (xs : List Request) × RingSays ls xs → (xs : List Request) × RingSays (l ∷ ls) xs
-    go (ringLine.Step f e) p w = (
-      ringRequest f ∷ w .0,
-      says.RingSays.step f (says-itself (ringForm f) l o (ring-exact l 0 f e .0 p .0)) (w .1),
-    )
-    go ringLine.NotAForm p w = (w .0, says.RingSays.other o (λ f s. ring-not l 0 .0 p f (says-first (ringForm f) l s)) (w .1))
+ring-asks c = let w = each-asks ring-steps c in (requestsIn (w .0), ring-says (w .1))
 
 tree-asks : {s : List ℕ} {ls : List (List ℕ)} → LinesOf s ls → (xs : List Request) × TreeSays ls xs
-tree-asks lines.no-line = ([], says.TreeSays.no-line)
-tree-asks (lines.last u h) = ([], says.TreeSays.cut u says.TreeSays.no-line)
-tree-asks (lines.another {l} {ls = ls} o c) = go (treeAt l 0) refl (tree-asks c)
-  where
-    go : (x : TreeLine) → treeAt l 0 ≡ x → (xs : List Request) × TreeSays ls xs → (xs : List Request) × TreeSays (l ∷ ls) xs
-    go (treeLine.Step f e) p w = (
-      treeRequest f ∷ w .0,
-      says.TreeSays.step f (says-itself (treeForm f) l o (tree-exact l 0 f e .0 p .0)) (w .1),
-    )
-    go treeLine.NotAForm p w = (w .0, says.TreeSays.other o (λ f s. tree-not l 0 .0 p f (says-first (treeForm f) l s)) (w .1))
+tree-asks c = let w = each-asks tree-steps c in (requestsIn (w .0), tree-says (w .1))
 
 -- ---- what they lead to
 

@@ -1,3 +1,4 @@
 pub mod Says
 pub mod First
 pub mod Theorems
+pub mod Whole

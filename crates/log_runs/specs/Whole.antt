@@ -1,0 +1,191 @@
+-- THE WHOLE LOG, for every list of bytes: what is printed for each of its lines and at its end, and demand 3 of that very log.
+-- The proof is in proofs/Whole.antt. Lines are numbered as in their answers: the lines after the first are lines 2 + i.
+use Prim.Native.Nat.{_*_, _+_, _-_, _<_, _≤_, suc, zero, ℕ}
+use lib.ListN.{getD, length, take}
+use mathlib.Core.Bool.{cond}
+use mathlib.Core.List.{List, [], _++_, _∷_}
+use mathlib.Core.Logic.{_↔_, _⊎_}
+use mathlib.Core.Path.{_≡_}
+use Rattle.decimal.specs.Bytes.{bytes}
+use Rattle.forms.specs.Form.{Says, announce, ringForm, treeForm}
+use Rattle.log_rules.specs.Answers.{answerText, ringEnd, ringRequest, treeEnd, treeRequest}
+use Rattle.log_rules.specs.Lines.{linesOf}
+use Rattle.log_rules.specs.Output.{outputOf}
+use Rattle.refusal.specs.Table.{isAccepted}
+use Rattle.refusal.specs.declared.Refusal.the-variants.{NotAForm}
+use Rattle.refusal.specs.declared.Verdict.{Verdict}
+use Rattle.refusal.specs.declared.Verdict.the-variants.{Accepted, Refused}
+use Rattle.ring_rules.specs.Theorems.{TokenMove}
+use Rattle.runs.specs.Runs.{Machine, Request, acceptedOf, runOf}
+use Rattle.tree_rules.specs.Termination.{Closing}
+use Rattle.tree_runs.specs.WholeRun.{stepsBy}
+use Rattle.log_runs.specs.First.{Asked, Asks, FirstAsks, firstVerdict, flagsTo, no-start, ring-start, tree-start}
+use Rattle.log_runs.specs.Says.{movesIn}
+use Rattle.ring_rules.specs.Start as ringStart
+use Rattle.ring_rules.specs.State as ringState
+use Rattle.ring_runs.specs.Agreement as ringAgreement
+use Rattle.ring_runs.specs.Counts as ringCounts
+use Rattle.ring_runs.specs.View as ringView
+use Rattle.ring_runs.specs.WholeRun as ringRuns
+use Rattle.tree_rules.specs.Start as treeStart
+use Rattle.tree_rules.specs.State as treeState
+use Rattle.tree_runs.specs.Agreement as treeAgreement
+use Rattle.tree_runs.specs.Counts as treeCounts
+use Rattle.tree_runs.specs.View as treeView
+use Rattle.tree_runs.specs.WholeRun as treeRuns
+
+-- ---- what the lines after the first ask for
+
+-- a request; or none, where the line says no step
+pub data Ask : Type 0 where
+  request : Request → Ask
+  no-step : Ask
+
+abbrev pub RingAsks : List ℕ → Ask → Type 0
+RingAsks = Asks ringForm (λ f. request (ringRequest f)) no-step
+
+abbrev pub TreeAsks : List ℕ → Ask → Type 0
+TreeAsks = Asks treeForm (λ f. request (treeRequest f)) no-step
+
+-- each line asks for what stands in its place
+pub data Each (P : List ℕ → Ask → Type 0) : List (List ℕ) → List Ask → Type 0 where
+  no-line : Each P [] []
+  line : {l : List ℕ} {ls : List (List ℕ)} {a : Ask} {qs : List Ask} → P l a → Each P ls qs → Each P (l ∷ ls) (a ∷ qs)
+
+-- the requests among them
+abbrev pub requestsIn : List Ask → List Request
+requestsIn [] = []
+requestsIn (request x ∷ qs) = x ∷ requestsIn qs
+requestsIn (no-step ∷ qs) = requestsIn qs
+
+-- those of lines 2 to 1 + i
+abbrev pub said : List Ask → ℕ → List Request
+said qs i = requestsIn (take i qs)
+
+-- ---- how they are answered
+
+-- the verdict on what a line asks for, where the run has come to s
+abbrev pub judged : {S : Type 0} → Machine S → S → Ask → Verdict
+judged m s (request x) = m .verdict s x
+judged m s no-step = Refused NotAForm
+
+-- the texts f 0, f 1 .. f (n - 1)
+unfoldable pub joined : (ℕ → List ℕ) → ℕ → List ℕ
+joined f zero = []
+joined f (suc n) = f 0 ++ joined (λ i. f (suc i)) n
+
+-- A run of the machine m from s, whose lines, 2 and on, are `lines` and ask for `qs`.
+module _ {S : Type 0} (m : Machine S) (s : S) (qs : List Ask) where
+  -- the verdict on line 2 + i: the machine's, on the state that the requests of the lines before it lead to
+  abbrev pub verdictAt : ℕ → Verdict
+  verdictAt i = judged m (runOf m s (said qs i)) (getD qs i no-step)
+
+  -- the answers to these lines
+  abbrev pub answers : List ℕ
+  answers = joined (λ i. answerText (2 + i) (verdictAt i)) (length qs)
+
+  -- line 2 + i is answered with ok
+  abbrev pub OkAt : ℕ → Type 0
+  OkAt i = verdictAt i ≡ Accepted
+
+  -- how many of lines 2 to 1 + i are
+  abbrev pub oks : ℕ → ℕ
+  oks zero = 0
+  oks (suc i) = oks i + cond (isAccepted (verdictAt i)) 1 0
+
+  module _ (lines : List (List ℕ)) where
+    -- line 2 + i is `(announce)`, and is answered with ok
+    abbrev pub AnnouncedAt : ℕ → Type 0
+    AnnouncedAt i = Says (getD lines i []) announce × OkAt i
+
+    -- no line before line 2 + j is so
+    abbrev pub NoneBefore : ℕ → Type 0
+    NoneBefore j = (i : ℕ) → i < j → AnnouncedAt i → ⊥
+
+    -- K steps of a kind are left at line 2 + i. At line 2 + j, there or later, as long as no announcement is accepted before it:
+    pub record CountsDown (Step : Request → Type 0) (i K : ℕ) : Type 0 where
+      -- it is answered with ok only if it asks for such a step or is `(announce)`
+      pub alone :
+          (j : ℕ) → i ≤ j → NoneBefore j → OkAt j → ((x : Request) × (getD qs j no-step ≡ request x) × Step x) ⊎ Says (getD lines j []) announce
+      -- of the lines in between at most K are answered with ok
+      pub at-most : (j : ℕ) → i ≤ j → NoneBefore j → oks j ≤ oks i + K
+      -- and `(announce)` is, exactly if K are
+      pub exactly : (j : ℕ) → i ≤ j → NoneBefore j → Says (getD lines j []) announce → OkAt j ↔ (oks j ≡ oks i + K)
+
+-- ---- a ring's log
+
+-- The first line of the log s began a ring of n nodes in the state r; `lines` are those after it.
+pub record RingLog (s : List ℕ) (lines : List (List ℕ)) (n : ℕ) (r : ringState.State) : Type 0 where
+  pub asks : List Ask
+  pub says : Each RingAsks lines asks
+  -- `(ok 1)`, the answers, and the end line: N, the token's position, the accepted token moves, messages in transit, black nodes
+  pub output :
+      outputOf s
+      ≡ answerText 1 Accepted
+      ++ (answers ringCounts.ring r asks
+      ++ ringEnd (runOf ringCounts.ring r (requestsIn asks)) (movesIn (acceptedOf ringCounts.ring r (requestsIn asks))))
+  -- `(announce)` is answered with ok only if every node is passive and no message is in transit, counted from the start and the requests
+  -- accepted before it
+  pub quiet : (i : ℕ) → AnnouncedAt ringCounts.ring r asks lines i → ringCounts.QuietBy r (said asks i)
+  -- and no line after it
+  pub last : (i j : ℕ) → i < j → AnnouncedAt ringCounts.ring r asks lines i → OkAt ringCounts.ring r asks j → ⊥
+  -- once every node is passive and no message is in transit, and until the announcement: K token moves are left, K fixed there
+  pub countdown :
+      (i : ℕ) → ringCounts.QuietBy r (said asks i) → NoneBefore ringCounts.ring r asks lines i
+      → (K : ℕ) × (K ≤ 3 * n - 2) × CountsDown ringCounts.ring r asks lines (λ x. TokenMove (ringCounts.kind x)) i K
+  -- demand 3 at each line, of all requests that could come next there
+  pub point : (i : ℕ) → ringRuns.Point r (said asks i)
+  -- pending of b is the accepted sends to b less the messages that b has received
+  pub from-start :
+      (i b : ℕ)
+      → ringState.pendingAt (runOf ringCounts.ring r (said asks i)) b + ringState.receivedAt (runOf ringCounts.ring r (said asks i)) b
+      ≡ ringCounts.sendsTo (acceptedOf ringCounts.ring r (said asks i)) b
+  -- EWD998 reaches the state before each line
+  pub reachable :
+      (h : 0 < n) (i : ℕ)
+      → ringAgreement.Reachable h (ringView.varsOf n (runOf ringCounts.ring r (said asks i)))
+      (ringAgreement.sendsMade (runOf ringCounts.ring r (said asks i)))
+
+-- ---- a tree's log
+
+-- The first line of the log s began a tree of n nodes with this root in the state t; `lines` are those after it.
+pub record TreeLog (s : List ℕ) (lines : List (List ℕ)) (n root : ℕ) (t : treeState.State) : Type 0 where
+  pub asks : List Ask
+  pub says : Each TreeAsks lines asks
+  -- `(ok 1)`, the answers, and the end line: N, the tree's text, acknowledgements in transit
+  pub output :
+      outputOf s
+      ≡ answerText 1 Accepted ++ (answers treeCounts.tree t asks ++ treeEnd (runOf treeCounts.tree t (requestsIn asks)))
+  -- `(announce)` is answered with ok only if every node is passive and no message is in transit, counted from the start and the requests
+  -- accepted before it
+  pub quiet : (i : ℕ) → AnnouncedAt treeCounts.tree t asks lines i → treeCounts.QuietBy t (said asks i)
+  -- and no line after it
+  pub last : (i j : ℕ) → i < j → AnnouncedAt treeCounts.tree t asks lines i → OkAt treeCounts.tree t asks j → ⊥
+  -- once every node is passive and no message is in transit, and until the announcement: A + 2E acknowledgements and leavings are left
+  pub countdown :
+      (i : ℕ) → treeCounts.QuietBy t (said asks i) → NoneBefore treeCounts.tree t asks lines i
+      → CountsDown treeCounts.tree t asks lines (λ x. Closing (treeCounts.kind x)) i (stepsBy t (said asks i))
+  -- demand 3 at each line, of all requests that could come next there
+  pub point : (i : ℕ) → treeRuns.Point t (said asks i)
+  -- document 003 reaches the state before each line
+  pub reachable :
+      (h : root < n) (i : ℕ)
+      → treeAgreement.Reachable {N = n} (record { nr = root; below = h }) (treeView.systemsOf n (runOf treeCounts.tree t (said asks i)))
+      (runOf treeCounts.tree t (said asks i) .sends)
+
+-- ---- the log
+
+-- by the verdict on the first line: "After a bad or missing first line the program prints only that refusal"
+abbrev pub Told : List ℕ → List (List ℕ) → Asked → Verdict → Type 0
+Told s lines a (Refused e) = outputOf s ≡ answerText 1 (Refused e)
+Told s lines (ring-start n active black) Accepted = RingLog s lines n (ringStart.startOf n (flagsTo active black n) .state)
+Told s lines (tree-start n root) Accepted = TreeLog s lines n root (treeStart.startOf n root .state)
+Told s lines no-start Accepted = ⊥
+
+-- its first line is missing; or it asks for a start or for none, and the verdict on that decides
+pub record Log (s : List ℕ) : Type 0 where
+  pub missing : linesOf s ≡ [] → outputOf s ≡ bytes "(no 1 10)\n"
+  pub begins : (l : List ℕ) (lines : List (List ℕ)) → linesOf s ≡ l ∷ lines → (a : Asked) × FirstAsks l a × Told s lines a (firstVerdict a)
+
+abbrev pub WholeLog : Type 0
+WholeLog = (s : List ℕ) → Log s
