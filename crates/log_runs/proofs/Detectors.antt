@@ -16,14 +16,11 @@ use Rattle.log_rules.specs.Answers.{Told, onRing, onTree, ringRequest, treeRequ
 use Rattle.log_rules.specs.Pieces.{OneLine}
 use mathlib.Core.Bool.{true}
 use Rattle.log_runs.proofs.Runs.{Answers, Steps}
-use Rattle.log_runs.specs.First.{cut, other, says}
-use Rattle.log_runs.specs.Says.{RingSays, TreeSays}
-use Rattle.log_runs.specs.Whole.{Ask, Each, RingAsks, TreeAsks, line, no-line, requestsIn}
+use Rattle.log_runs.specs.Says.{Ask, RingAsks, TreeAsks, cut, other, says}
 use Rattle.forms.specs.declared.RingLine.the-variants as ringLine
 use Rattle.forms.specs.declared.RingStep.the-variants as ringStep
 use Rattle.forms.specs.declared.TreeLine.the-variants as treeLine
 use Rattle.forms.specs.declared.TreeStep.the-variants as treeStep
-use Rattle.log_runs.specs.Says as asked
 use Rattle.ring_rules.specs.Answers as ringAnswers
 use Rattle.ring_rules.specs.State as ringState
 use Rattle.ring_runs.specs.Counts as ringCounts
@@ -60,12 +57,6 @@ ring-steps = record {
   once = λ l f g s t. ring-once f g (s .1 .0) (t .1 .0) (sym (s .0) ∙ t .0);
   told = ring-read;
 }
-
-pub ring-says : {ls : List (List ℕ)} {qs : List Ask} → Each RingAsks ls qs → RingSays ls (requestsIn qs)
-ring-says no-line = asked.RingSays.no-line
-ring-says (line (says f s) c) = asked.RingSays.step f s (ring-says c)
-ring-says (line (other o h) c) = asked.RingSays.other o h (ring-says c)
-ring-says (line (cut u) c) = asked.RingSays.cut u (ring-says c)
 
 pub ring-answers : (r : ringState.State) (moves k : ℕ) (l : List ℕ) (a : Ask) → RingAsks l a → Answers ringCounts.ring onRing r moves k l a
 unfolding ringAnswers.answerOf
@@ -108,12 +99,6 @@ tree-steps = record {
   once = λ l f g s t. tree-once f g (s .1 .0) (t .1 .0) (sym (s .0) ∙ t .0);
   told = tree-read;
 }
-
-pub tree-says : {ls : List (List ℕ)} {qs : List Ask} → Each TreeAsks ls qs → TreeSays ls (requestsIn qs)
-tree-says no-line = asked.TreeSays.no-line
-tree-says (line (says f s) c) = asked.TreeSays.step f s (tree-says c)
-tree-says (line (other o h) c) = asked.TreeSays.other o h (tree-says c)
-tree-says (line (cut u) c) = asked.TreeSays.cut u (tree-says c)
 
 pub tree-answers :
     (t : treeState.State) (moves k : ℕ) (l : List ℕ) (a : Ask) → TreeAsks l a → Answers treeCounts.tree (λ t moves. onTree t) t moves k l a

@@ -29,7 +29,8 @@ use Rattle.refusal.specs.Table.{NoneHolds, _⟶_, also, firstOf, none}
 use Rattle.refusal.specs.declared.Refusal.the-variants.{NodeCount, UnknownNode}
 use Rattle.refusal.specs.declared.Verdict.{Verdict}
 use Rattle.refusal.specs.declared.Verdict.the-variants.{Accepted, Refused}
-use Rattle.log_runs.specs.First.{Asked, Asks, FirstAsks, allBelow, begun, cut, firstVerdict, flagsTo, meant, no-start, other, says, startRows}
+use Rattle.log_runs.specs.First.{Asked, FirstAsks, allBelow, begun, firstVerdict, flagsTo, meant, no-start, startRows}
+use Rattle.log_runs.specs.Says.{Asks, cut, other, says}
 use Rattle.forms.specs.Read as read
 use Rattle.log_rules.proofs.Ends as ends
 use Rattle.ring_rules.proofs.Start as ringLaws

@@ -22,9 +22,8 @@ use Rattle.refusal.specs.declared.Verdict.the-variants.{Accepted, Refused}
 use Rattle.runs.proofs.Runs.{accepted-append, run-append}
 use Rattle.runs.specs.Runs.{Accepts, Machine, Request, acceptedOf, next, runOf}
 use Rattle.log_runs.proofs.First.{asks-once}
-use Rattle.log_runs.specs.First.{Asks, cut, other, says}
-use Rattle.log_runs.specs.Says.{printed, stageAfter}
-use Rattle.log_runs.specs.Whole.{AnnouncedAt, Ask, CountsDown, Each, NoneBefore, OkAt, joined, judged, line, no-line, no-step, oks, request, requestsIn, said, verdictAt}
+use Rattle.log_runs.specs.Says.{Ask, Asks, Each, cut, line, no-line, no-step, other, printed, request, requestsIn, says, stageAfter}
+use Rattle.log_runs.specs.Whole.{AnnouncedAt, CountsDown, NoneBefore, OkAt, joined, judged, oks, said, verdictAt}
 use Rattle.log_rules.specs.Theorems as lines
 
 -- ---- what is printed
@@ -219,6 +218,11 @@ module _ {F : Type 0} (d : Steps F) where
           → (qs : List Ask) × Each LineAsks (l ∷ ls) qs
       go (inl (f, s)) w = (request (d .asked f) ∷ w .0, line (says f s) (w .1))
       go (inr h) w = (no-step ∷ w .0, line (other o h) (w .1))
+
+  -- and for that alone
+  pub each-once : {ls : List (List ℕ)} {ps qs : List Ask} → Each LineAsks ls ps → Each LineAsks ls qs → ps ≡ qs
+  each-once no-line no-line = refl
+  each-once (line {l} p c) (line q e) = λ i. asks-once (d .once l) p q i ∷ each-once c e i
 
   each-at : {ls : List (List ℕ)} {qs : List Ask} → Each LineAsks ls qs → (i : ℕ) → LineAsks (getD ls i []) (getD qs i no-step)
   each-at no-line i = cut empty

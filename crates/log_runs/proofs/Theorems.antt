@@ -31,14 +31,12 @@ use Rattle.refusal.specs.declared.Verdict.{Verdict}
 use Rattle.refusal.specs.declared.Verdict.the-variants.{Accepted, Refused}
 use Rattle.runs.specs.Runs.{Accepts, Request, acceptedOf, next, runOf}
 use Rattle.tree_runs.specs.WholeRun.{stepsBy}
-use Rattle.log_runs.proofs.Detectors.{ring-says, ring-steps, tree-says, tree-steps}
-use Rattle.log_runs.proofs.Runs.{each-asks}
-use Rattle.log_runs.specs.Whole.{requestsIn}
+use Rattle.log_runs.proofs.Detectors.{ring-steps, tree-steps}
+use Rattle.log_runs.proofs.Runs.{each-asks, each-once}
 use Rattle.log_runs.proofs.First.{asks-once, first-asks, first-told, ring-accepted, start-once, tree-accepted}
-use Rattle.log_runs.specs.First.{Asked, FirstAsks, cut, no-start}
-use Rattle.log_runs.specs.Says.{BegunOpen, RingSays, TreeSays, moveBy, movesIn, printed, stageAfter}
+use Rattle.log_runs.specs.First.{Asked, FirstAsks, no-start}
+use Rattle.log_runs.specs.Says.{Ask, BegunOpen, Each, RingAsks, TreeAsks, cut, line, no-line, other, requestsIn, says, RingSays, TreeSays, moveBy, movesIn, printed, stageAfter}
 use Rattle.log_runs.specs.Theorems.{LogRuns, Ok, RingCountdown}
-use Rattle.log_runs.specs.Says as says
 use Rattle.log_rules.specs.Theorems as lines
 use Rattle.first_line.specs.declared.Kind.the-variants as line
 use Rattle.forms.specs.declared.RingLine.the-variants as ringLine
@@ -100,10 +98,10 @@ taken (lines.last {l} u h) (suc n) = go n
 taken (lines.another {l} o c) (suc n) = let w = taken c n in (l ++ w .0, lines.another o (w .1))
 
 ring-asks : {s : List ℕ} {ls : List (List ℕ)} → LinesOf s ls → (xs : List Request) × RingSays ls xs
-ring-asks c = let w = each-asks ring-steps c in (requestsIn (w .0), ring-says (w .1))
+ring-asks c = let w = each-asks ring-steps c in (requestsIn (w .0), (w .0, w .1, refl))
 
 tree-asks : {s : List ℕ} {ls : List (List ℕ)} → LinesOf s ls → (xs : List Request) × TreeSays ls xs
-tree-asks c = let w = each-asks tree-steps c in (requestsIn (w .0), tree-says (w .1))
+tree-asks c = let w = each-asks tree-steps c in (requestsIn (w .0), (w .0, w .1, refl))
 
 -- ---- what they lead to
 
@@ -126,35 +124,48 @@ unfolding movesIn
 moved f Accepted acc m = omega (arith, move-is f)
 moved f (Refused e) acc m = omega (arith, no-move (isMove f))
 
-ring-state :
-    (r : ringState.State) (m k : ℕ) {ls : List (List ℕ)} {xs : List Request} → RingSays ls xs
-    → stageAfter (onRing r m) k ls ≡ onRing (runOf ringCounts.ring r xs) (m + movesIn (acceptedOf ringCounts.ring r xs))
+ring-each :
+    (r : ringState.State) (m k : ℕ) {ls : List (List ℕ)} {qs : List Ask} → Each RingAsks ls qs
+    → stageAfter (onRing r m) k ls
+    ≡ onRing (runOf ringCounts.ring r (requestsIn qs)) (m + movesIn (acceptedOf ringCounts.ring r (requestsIn qs)))
 unfolding stageAfter runOf acceptedOf movesIn ringAnswers.answerOf
-ring-state r m k says.RingSays.no-line = rw (add-zero m)
-ring-state r m k (says.RingSays.step {l} {ls} {xs} f s c) =
+ring-each r m k no-line = rw (add-zero m)
+ring-each r m k (line {l} {ls} {qs = qs} (says f s) c) =
     let x = ringRequest f in
     let t = next ringCounts.ring r x in
     let v = ringCounts.ring .verdict r x in
     ap (λ (y : Told). stageAfter (y .stage) (k + 1) ls) (lines-say .ring-step r m k l f s)
-    ∙ (ring-state t (m + cond (isMove f && isAccepted v) 1 0) (k + 1) c
-    ∙ ap (onRing (runOf ringCounts.ring t xs)) (moved f v (acceptedOf ringCounts.ring t xs) m))
-ring-state r m k (says.RingSays.other {l} {ls} o h c) =
-    ap (λ (y : Told). stageAfter (y .stage) (k + 1) ls) (lines-say .ring-other r m k l o h) ∙ ring-state r m (k + 1) c
-ring-state r m k (says.RingSays.cut {l} {ls} u c) =
-    ap (λ (y : Told). stageAfter (y .stage) (k + 1) ls) (lines-say .unended (onRing r m) k l u) ∙ ring-state r m (k + 1) c
+    ∙ (ring-each t (m + cond (isMove f && isAccepted v) 1 0) (k + 1) c
+    ∙ ap (onRing (runOf ringCounts.ring t (requestsIn qs))) (moved f v (acceptedOf ringCounts.ring t (requestsIn qs)) m))
+ring-each r m k (line {l} {ls} (other o h) c) =
+    ap (λ (y : Told). stageAfter (y .stage) (k + 1) ls) (lines-say .ring-other r m k l o h) ∙ ring-each r m (k + 1) c
+ring-each r m k (line {l} {ls} (cut u) c) =
+    ap (λ (y : Told). stageAfter (y .stage) (k + 1) ls) (lines-say .unended (onRing r m) k l u) ∙ ring-each r m (k + 1) c
+
+ring-state :
+    (r : ringState.State) (m k : ℕ) {ls : List (List ℕ)} {xs : List Request} → RingSays ls xs
+    → stageAfter (onRing r m) k ls ≡ onRing (runOf ringCounts.ring r xs) (m + movesIn (acceptedOf ringCounts.ring r xs))
+ring-state r m k c =
+    ring-each r m k (c .1)
+    ∙ ap (λ (xs : List Request). onRing (runOf ringCounts.ring r xs) (m + movesIn (acceptedOf ringCounts.ring r xs))) (c .2)
+
+tree-each :
+    (t : treeState.State) (k : ℕ) {ls : List (List ℕ)} {qs : List Ask} → Each TreeAsks ls qs
+    → stageAfter (onTree t) k ls ≡ onTree (runOf treeCounts.tree t (requestsIn qs))
+unfolding stageAfter runOf treeAnswers.answerOf
+tree-each t k no-line = refl
+tree-each t k (line {l} {ls} (says f s) c) =
+    ap (λ (y : Told). stageAfter (y .stage) (k + 1) ls) (lines-say .tree-step t k l f s)
+    ∙ tree-each (next treeCounts.tree t (treeRequest f)) (k + 1) c
+tree-each t k (line {l} {ls} (other o h) c) =
+    ap (λ (y : Told). stageAfter (y .stage) (k + 1) ls) (lines-say .tree-other t k l o h) ∙ tree-each t (k + 1) c
+tree-each t k (line {l} {ls} (cut u) c) =
+    ap (λ (y : Told). stageAfter (y .stage) (k + 1) ls) (lines-say .unended (onTree t) k l u) ∙ tree-each t (k + 1) c
 
 tree-state :
     (t : treeState.State) (k : ℕ) {ls : List (List ℕ)} {xs : List Request} → TreeSays ls xs
     → stageAfter (onTree t) k ls ≡ onTree (runOf treeCounts.tree t xs)
-unfolding stageAfter runOf treeAnswers.answerOf
-tree-state t k says.TreeSays.no-line = refl
-tree-state t k (says.TreeSays.step {l} {ls} f s c) =
-    ap (λ (y : Told). stageAfter (y .stage) (k + 1) ls) (lines-say .tree-step t k l f s)
-    ∙ tree-state (next treeCounts.tree t (treeRequest f)) (k + 1) c
-tree-state t k (says.TreeSays.other {l} {ls} o h c) =
-    ap (λ (y : Told). stageAfter (y .stage) (k + 1) ls) (lines-say .tree-other t k l o h) ∙ tree-state t (k + 1) c
-tree-state t k (says.TreeSays.cut {l} {ls} u c) =
-    ap (λ (y : Told). stageAfter (y .stage) (k + 1) ls) (lines-say .unended (onTree t) k l u) ∙ tree-state t (k + 1) c
+tree-state t k c = tree-each t k (c .1) ∙ ap (λ (xs : List Request). onTree (runOf treeCounts.tree t xs)) (c .2)
 
 -- ---- an announcement that is printed
 
@@ -298,6 +309,8 @@ log-runs = record {
   taken = taken;
   ring-asks = ring-asks;
   tree-asks = tree-asks;
+  ring-once = each-once ring-steps;
+  tree-once = each-once tree-steps;
   ring-state = ring-state;
   tree-state = tree-state;
   ring-quiet = ring-quiet;

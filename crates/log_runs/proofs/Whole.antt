@@ -23,13 +23,13 @@ use Rattle.forms.specs.declared.TreeStep.the-variants as treeStep
 use Rattle.runs.specs.Runs.{Accepts, Request, acceptedOf, runOf}
 use Rattle.tree_rules.specs.Termination.{Closing}
 use Rattle.tree_runs.specs.WholeRun.{stepsBy}
-use Rattle.log_runs.proofs.Detectors.{ring-answers, ring-says, ring-steps, tree-answers, tree-says, tree-steps}
+use Rattle.log_runs.proofs.Detectors.{ring-answers, ring-steps, tree-answers, tree-steps}
 use Rattle.log_runs.proofs.First.{first-told, ring-accepted, tree-accepted}
 use Rattle.log_runs.proofs.Runs.{Left, announce-ok, counts-down, each-asks, lines-printed, none-after, told-printed, unannounced}
 use Rattle.log_runs.proofs.Theorems.{log-runs}
 use Rattle.log_runs.specs.First.{Asked, FirstAsks, begun, firstVerdict, flagsTo, no-start, ring-start, tree-start}
-use Rattle.log_runs.specs.Says.{movesIn, printed, stageAfter}
-use Rattle.log_runs.specs.Whole.{Ask, Each, answers, RingAsks, RingLog, Told, TreeAsks, TreeLog, WholeLog, requestsIn, said}
+use Rattle.log_runs.specs.Says.{Ask, Each, RingAsks, TreeAsks, movesIn, printed, requestsIn, stageAfter}
+use Rattle.log_runs.specs.Whole.{LogBy, RingLog, TreeLog, WholeLog, answers, said}
 use Rattle.log_rules.specs.Theorems as lines
 use Rattle.log_rules.specs.Answers as rules
 use Rattle.ring_rules.specs.Soundness as ringSound
@@ -121,7 +121,8 @@ module _ (n : ℕ) (flags : List ℕ) (started : ringStart.startVerdict n flags 
           counts-down ring-steps ringCounts.ring ring-first c i (d .K) (λ ys u. ring-left (d .counted ys (u))),
         );
     point = point;
-    from-start = λ i b. ringRuns.whole-runs .from-start n flags started (said qs i) b .1;
+    received = λ i b. ringRuns.whole-runs .from-start n flags started (said qs i) b .0;
+    pending = λ i b. ringRuns.whole-runs .from-start n flags started (said qs i) b .1;
     reachable = λ h i. ringAgreement.runs-agree h .run-is-reachable flags started (said qs i);
   }
     where
@@ -131,7 +132,7 @@ module _ (n : ℕ) (flags : List ℕ) (started : ringStart.startVerdict n flags 
       end : endText (stageAfter (onRing ring-first 0) 2 ls)
           ≡ ringEnd (runOf ringCounts.ring ring-first (requestsIn qs)) (movesIn (acceptedOf ringCounts.ring ring-first (requestsIn qs)))
       end =
-          ap endText (log-runs .ring-state ring-first 0 2 (ring-says c))
+          ap endText (log-runs .ring-state ring-first 0 2 (qs, c, refl))
           ∙ ap (ringEnd (runOf ringCounts.ring ring-first (requestsIn qs))) (zero-add (movesIn (acceptedOf ringCounts.ring ring-first (requestsIn qs))))
 
 -- ---- a tree
@@ -164,7 +165,7 @@ module _ (n root : ℕ) (started : treeStart.startVerdict n root ≡ Accepted) w
         ∙ (ap (λ (t : List ℕ). answerText 1 Accepted ++ (t ++ endText (stageAfter (onTree tree-first) 2 ls)))
         (lines-printed treeCounts.tree {stage = λ t moves. onTree t} tree-answers tree-first 0 2 c)
         ∙ ap (λ (t : Stage). answerText 1 Accepted ++ (answers treeCounts.tree tree-first qs ++ endText t))
-        (log-runs .tree-state tree-first 2 (tree-says c)));
+        (log-runs .tree-state tree-first 2 (qs, c, refl)));
     quiet = λ i a. point i .quiet (treeRequest treeStep.Announce) refl (announce-ok tree-steps treeCounts.tree tree-first c i a);
     last = none-after tree-steps treeCounts.tree tree-first c (λ i. point i .last);
     countdown = λ i quiet none.
@@ -186,7 +187,7 @@ nothing-told = refl
 
 told-by :
     (s l : List ℕ) (ls : List (List ℕ)) → outputOf s ≡ linesTold fresh 1 (l ∷ ls) → {s′ : List ℕ} → LinesOf s′ ls → (a : Asked) → FirstAsks l a
-    → (v : Verdict) → firstVerdict a ≡ v → Told s ls a v
+    → (v : Verdict) → firstVerdict a ≡ v → LogBy s ls a v
 told-by s l ls o c a f (Refused x) e = refused s l ls o f e
 told-by s l ls o c (ring-start n active black) f Accepted e =
     let w = each-asks ring-steps c in

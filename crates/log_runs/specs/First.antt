@@ -5,23 +5,14 @@ use mathlib.Core.Bool.{Bool, _&&_, not, true}
 use mathlib.Core.List.{List, [], _++_, _∷_}
 use Rattle.first_line.specs.Meaning.{flagByte, named}
 use Rattle.first_line.specs.Start.{Start, bare, lists, startForm, tree}
-use Rattle.forms.specs.Form.{Form, Says}
 use Rattle.log_rules.specs.Answers.{Stage, onRing, onTree, over}
-use Rattle.log_rules.specs.Pieces.{OneLine, PartLine}
 use Rattle.refusal.specs.Table.{Row, _⟶_, firstOf}
 use Rattle.refusal.specs.declared.Refusal.the-variants.{NodeCount, NotAForm, UnknownNode}
 use Rattle.refusal.specs.declared.Verdict.{Verdict}
 use Rattle.refusal.specs.declared.Verdict.the-variants.{Refused}
+use Rattle.log_runs.specs.Says.{Asks}
 use Rattle.ring_rules.specs.Start as ringStart
 use Rattle.tree_rules.specs.Start as treeStart
-
--- What a line asks for: what the form that it says means; nothing, where it says none of these forms or lacks its byte 10.
-pub data Asks {F A : Type 0} (form : F → Form) (means : F → A) (nothing : A) (l : List ℕ) : A → Type 0 where
-  says : (f : F) → Says l (form f) → Asks form means nothing l (means f)
-  other : OneLine l → ((f : F) → Says l (form f) → ⊥) → Asks form means nothing l nothing
-  cut : PartLine l → Asks form means nothing l nothing
-
--- ---- the first line
 
 -- a ring of n nodes, the active and the black ones named; a tree of n nodes with its root; or no start
 pub data Asked : Type 0 where
@@ -50,10 +41,7 @@ allBelow n (k ∷ ks) = ltb k n && allBelow n ks
 
 -- "start | 1 | boards outside 1 to 96 (tree 1 to 16)", then "step, start | 6 | a board number that is used is N or more"
 abbrev pub startRows : ℕ → ℕ → Bool → List Row
-startRows most n known =
-    (not (ltb 0 n && leb n most) ⟶ NodeCount)
-    ∷ (not known ⟶ UnknownNode)
-    ∷ []
+startRows most n known = (not (ltb 0 n && leb n most) ⟶ NodeCount) ∷ (not known ⟶ UnknownNode) ∷ []
 
 -- "log line | 10 | not one of the forms below" comes before both
 abbrev pub firstVerdict : Asked → Verdict

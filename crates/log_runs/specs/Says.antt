@@ -2,9 +2,7 @@
 use Prim.Native.Nat.{_+_, ℕ}
 use mathlib.Core.List.{List, [], _++_, _∷_}
 use mathlib.Core.Path.{_≡_}
-use Rattle.forms.specs.Form.{Says, ringForm, treeForm}
-use Rattle.forms.specs.declared.RingStep.{RingStep}
-use Rattle.forms.specs.declared.TreeStep.{TreeStep}
+use Rattle.forms.specs.Form.{Form, Says, ringForm, treeForm}
 use Rattle.log_rules.specs.Answers.{Stage, fresh, lineTold, onRing, onTree, over, ringRequest, treeRequest}
 use Rattle.log_rules.specs.Pieces.{OneLine, PartLine}
 use Rattle.ring_rules.specs.Rules.{Announce, Idle, Kind, Pass, Probe, Send, Take, Unknown}
@@ -13,28 +11,40 @@ use Rattle.runs.specs.Runs.{Request}
 use Rattle.ring_rules.specs.Soundness as ringSound
 use Rattle.tree_rules.specs.Soundness as treeSound
 
--- the lines of a ring's run say these requests: a line that says a step says its request; every other line, and one without its byte 10,
--- says none
-pub data RingSays : List (List ℕ) → List Request → Type 0 where
-  no-line : RingSays [] []
-  step :
-      {l : List ℕ} {ls : List (List ℕ)} {xs : List Request} (f : RingStep) → Says l (ringForm f) → RingSays ls xs
-      → RingSays (l ∷ ls) (ringRequest f ∷ xs)
-  other :
-      {l : List ℕ} {ls : List (List ℕ)} {xs : List Request} → OneLine l → ((f : RingStep) → Says l (ringForm f) → ⊥) → RingSays ls xs
-      → RingSays (l ∷ ls) xs
-  cut : {l : List ℕ} {ls : List (List ℕ)} {xs : List Request} → PartLine l → RingSays ls xs → RingSays (l ∷ ls) xs
+-- What a line asks for: what the form that it says means; nothing, where it says none of these forms or lacks its byte 10.
+pub data Asks {F A : Type 0} (form : F → Form) (means : F → A) (nothing : A) (l : List ℕ) : A → Type 0 where
+  says : (f : F) → Says l (form f) → Asks form means nothing l (means f)
+  other : OneLine l → ((f : F) → Says l (form f) → ⊥) → Asks form means nothing l nothing
+  cut : PartLine l → Asks form means nothing l nothing
 
--- and those of a tree's run
-pub data TreeSays : List (List ℕ) → List Request → Type 0 where
-  no-line : TreeSays [] []
-  step :
-      {l : List ℕ} {ls : List (List ℕ)} {xs : List Request} (f : TreeStep) → Says l (treeForm f) → TreeSays ls xs
-      → TreeSays (l ∷ ls) (treeRequest f ∷ xs)
-  other :
-      {l : List ℕ} {ls : List (List ℕ)} {xs : List Request} → OneLine l → ((f : TreeStep) → Says l (treeForm f) → ⊥) → TreeSays ls xs
-      → TreeSays (l ∷ ls) xs
-  cut : {l : List ℕ} {ls : List (List ℕ)} {xs : List Request} → PartLine l → TreeSays ls xs → TreeSays (l ∷ ls) xs
+-- what a line of a run asks for: a request; or none, where it says no step
+pub data Ask : Type 0 where
+  request : Request → Ask
+  no-step : Ask
+
+abbrev pub RingAsks : List ℕ → Ask → Type 0
+RingAsks = Asks ringForm (λ f. request (ringRequest f)) no-step
+
+abbrev pub TreeAsks : List ℕ → Ask → Type 0
+TreeAsks = Asks treeForm (λ f. request (treeRequest f)) no-step
+
+-- each line asks for what stands in its place
+pub data Each (P : List ℕ → Ask → Type 0) : List (List ℕ) → List Ask → Type 0 where
+  no-line : Each P [] []
+  line : {l : List ℕ} {ls : List (List ℕ)} {a : Ask} {qs : List Ask} → P l a → Each P ls qs → Each P (l ∷ ls) (a ∷ qs)
+
+-- the requests among them
+abbrev pub requestsIn : List Ask → List Request
+requestsIn [] = []
+requestsIn (request x ∷ qs) = x ∷ requestsIn qs
+requestsIn (no-step ∷ qs) = requestsIn qs
+
+-- the lines of a ring's run say these requests, and those of a tree's
+abbrev pub RingSays : List (List ℕ) → List Request → Type 0
+RingSays ls xs = (qs : List Ask) × Each RingAsks ls qs × (requestsIn qs ≡ xs)
+
+abbrev pub TreeSays : List (List ℕ) → List Request → Type 0
+TreeSays ls xs = (qs : List Ask) × Each TreeAsks ls qs × (requestsIn qs ≡ xs)
 
 -- what a log has come to after some lines, the first of them line k, and what is printed of them
 unfoldable pub stageAfter : Stage → ℕ → List (List ℕ) → Stage

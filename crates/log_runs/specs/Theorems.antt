@@ -13,7 +13,7 @@ use Rattle.refusal.specs.declared.Verdict.the-variants.{Accepted}
 use Rattle.runs.specs.Runs.{Request, acceptedOf, runOf}
 use Rattle.tree_runs.specs.WholeRun.{stepsBy}
 use Rattle.log_runs.specs.First.{Asked, FirstAsks, begun, firstVerdict, flagsTo, ring-start, tree-start}
-use Rattle.log_runs.specs.Says.{BegunOpen, RingSays, TreeSays, movesIn, printed, stageAfter}
+use Rattle.log_runs.specs.Says.{Ask, BegunOpen, Each, RingAsks, RingSays, TreeAsks, TreeSays, movesIn, printed, stageAfter}
 use Rattle.ring_rules.specs.State as ringState
 use Rattle.ring_rules.specs.Soundness as ringSound
 use Rattle.ring_rules.specs.Start as ringStart
@@ -55,10 +55,12 @@ pub record LogRuns : Type 0 where
   pub tree-started : (n root : ℕ) → firstVerdict (tree-start n root) ≡ Accepted → treeStart.startVerdict n root ≡ Accepted
   -- so the first line begins an open run, or none
   pub first : (l : List ℕ) → BegunOpen (lineTold fresh 1 l .stage)
-  -- the lines that are read of a log, its first n, are the lines of a text too; and the lines of every text say requests
+  -- the lines that are read of a log, its first n, are the lines of a text too; and the lines of every text say requests, and these alone
   pub taken : {s : List ℕ} {ls : List (List ℕ)} → LinesOf s ls → (n : ℕ) → (s′ : List ℕ) × LinesOf s′ (take n ls)
   pub ring-asks : {s : List ℕ} {ls : List (List ℕ)} → LinesOf s ls → (xs : List Request) × RingSays ls xs
   pub tree-asks : {s : List ℕ} {ls : List (List ℕ)} → LinesOf s ls → (xs : List Request) × TreeSays ls xs
+  pub ring-once : {ls : List (List ℕ)} {ps qs : List Ask} → Each RingAsks ls ps → Each RingAsks ls qs → ps ≡ qs
+  pub tree-once : {ls : List (List ℕ)} {ps qs : List Ask} → Each TreeAsks ls ps → Each TreeAsks ls qs → ps ≡ qs
   -- and the log comes to what these requests lead to; "moves are accepted token moves"
   pub ring-state :
       (r : ringState.State) (m k : ℕ) {ls : List (List ℕ)} {xs : List Request} → RingSays ls xs

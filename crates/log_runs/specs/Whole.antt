@@ -7,8 +7,8 @@ use mathlib.Core.List.{List, [], _++_, _∷_}
 use mathlib.Core.Logic.{_↔_, _⊎_}
 use mathlib.Core.Path.{_≡_}
 use Rattle.decimal.specs.Bytes.{bytes}
-use Rattle.forms.specs.Form.{Says, announce, ringForm, treeForm}
-use Rattle.log_rules.specs.Answers.{answerText, ringEnd, ringRequest, treeEnd, treeRequest}
+use Rattle.forms.specs.Form.{Says, announce}
+use Rattle.log_rules.specs.Answers.{answerText, ringEnd, treeEnd}
 use Rattle.log_rules.specs.Lines.{linesOf}
 use Rattle.log_rules.specs.Output.{outputOf}
 use Rattle.refusal.specs.Table.{isAccepted}
@@ -16,11 +16,13 @@ use Rattle.refusal.specs.declared.Refusal.the-variants.{NotAForm}
 use Rattle.refusal.specs.declared.Verdict.{Verdict}
 use Rattle.refusal.specs.declared.Verdict.the-variants.{Accepted, Refused}
 use Rattle.ring_rules.specs.Theorems.{TokenMove}
+use Rattle.ring_runs.specs.Counts.{ring}
 use Rattle.runs.specs.Runs.{Machine, Request, acceptedOf, runOf}
 use Rattle.tree_rules.specs.Termination.{Closing}
+use Rattle.tree_runs.specs.Counts.{tree}
 use Rattle.tree_runs.specs.WholeRun.{stepsBy}
-use Rattle.log_runs.specs.First.{Asked, Asks, FirstAsks, firstVerdict, flagsTo, no-start, ring-start, tree-start}
-use Rattle.log_runs.specs.Says.{movesIn}
+use Rattle.log_runs.specs.First.{Asked, FirstAsks, firstVerdict, flagsTo, no-start, ring-start, tree-start}
+use Rattle.log_runs.specs.Says.{Ask, Each, RingAsks, TreeAsks, movesIn, no-step, request, requestsIn}
 use Rattle.ring_rules.specs.Start as ringStart
 use Rattle.ring_rules.specs.State as ringState
 use Rattle.ring_runs.specs.Agreement as ringAgreement
@@ -34,35 +36,11 @@ use Rattle.tree_runs.specs.Counts as treeCounts
 use Rattle.tree_runs.specs.View as treeView
 use Rattle.tree_runs.specs.WholeRun as treeRuns
 
--- ---- what the lines after the first ask for
+-- ---- how the lines after the first are answered
 
--- a request; or none, where the line says no step
-pub data Ask : Type 0 where
-  request : Request → Ask
-  no-step : Ask
-
-abbrev pub RingAsks : List ℕ → Ask → Type 0
-RingAsks = Asks ringForm (λ f. request (ringRequest f)) no-step
-
-abbrev pub TreeAsks : List ℕ → Ask → Type 0
-TreeAsks = Asks treeForm (λ f. request (treeRequest f)) no-step
-
--- each line asks for what stands in its place
-pub data Each (P : List ℕ → Ask → Type 0) : List (List ℕ) → List Ask → Type 0 where
-  no-line : Each P [] []
-  line : {l : List ℕ} {ls : List (List ℕ)} {a : Ask} {qs : List Ask} → P l a → Each P ls qs → Each P (l ∷ ls) (a ∷ qs)
-
--- the requests among them
-abbrev pub requestsIn : List Ask → List Request
-requestsIn [] = []
-requestsIn (request x ∷ qs) = x ∷ requestsIn qs
-requestsIn (no-step ∷ qs) = requestsIn qs
-
--- those of lines 2 to 1 + i
+-- the requests of lines 2 to 1 + i
 abbrev pub said : List Ask → ℕ → List Request
 said qs i = requestsIn (take i qs)
-
--- ---- how they are answered
 
 -- the verdict on what a line asks for, where the run has come to s
 abbrev pub judged : {S : Type 0} → Machine S → S → Ask → Verdict
@@ -122,29 +100,31 @@ pub record RingLog (s : List ℕ) (lines : List (List ℕ)) (n : ℕ) (r : ringS
   pub output :
       outputOf s
       ≡ answerText 1 Accepted
-      ++ (answers ringCounts.ring r asks
-      ++ ringEnd (runOf ringCounts.ring r (requestsIn asks)) (movesIn (acceptedOf ringCounts.ring r (requestsIn asks))))
+      ++ (answers ring r asks
+      ++ ringEnd (runOf ring r (requestsIn asks)) (movesIn (acceptedOf ring r (requestsIn asks))))
   -- `(announce)` is answered with ok only if every node is passive and no message is in transit, counted from the start and the requests
   -- accepted before it
-  pub quiet : (i : ℕ) → AnnouncedAt ringCounts.ring r asks lines i → ringCounts.QuietBy r (said asks i)
+  pub quiet : (i : ℕ) → AnnouncedAt ring r asks lines i → ringCounts.QuietBy r (said asks i)
   -- and no line after it
-  pub last : (i j : ℕ) → i < j → AnnouncedAt ringCounts.ring r asks lines i → OkAt ringCounts.ring r asks j → ⊥
+  pub last : (i j : ℕ) → i < j → AnnouncedAt ring r asks lines i → OkAt ring r asks j → ⊥
   -- once every node is passive and no message is in transit, and until the announcement: K token moves are left, K fixed there
   pub countdown :
-      (i : ℕ) → ringCounts.QuietBy r (said asks i) → NoneBefore ringCounts.ring r asks lines i
-      → (K : ℕ) × (K ≤ 3 * n - 2) × CountsDown ringCounts.ring r asks lines (λ x. TokenMove (ringCounts.kind x)) i K
+      (i : ℕ) → ringCounts.QuietBy r (said asks i) → NoneBefore ring r asks lines i
+      → (K : ℕ) × (K ≤ 3 * n - 2) × CountsDown ring r asks lines (λ x. TokenMove (ringCounts.kind x)) i K
   -- demand 3 at each line, of all requests that could come next there
   pub point : (i : ℕ) → ringRuns.Point r (said asks i)
-  -- pending of b is the accepted sends to b less the messages that b has received
-  pub from-start :
+  -- pending of b is the accepted sends to b less the messages that b has received, those of its accepted takes
+  pub received :
+      (i b : ℕ) → ringState.receivedAt (runOf ring r (said asks i)) b ≡ ringCounts.takesBy (acceptedOf ring r (said asks i)) b
+  pub pending :
       (i b : ℕ)
-      → ringState.pendingAt (runOf ringCounts.ring r (said asks i)) b + ringState.receivedAt (runOf ringCounts.ring r (said asks i)) b
-      ≡ ringCounts.sendsTo (acceptedOf ringCounts.ring r (said asks i)) b
+      → ringState.pendingAt (runOf ring r (said asks i)) b + ringState.receivedAt (runOf ring r (said asks i)) b
+      ≡ ringCounts.sendsTo (acceptedOf ring r (said asks i)) b
   -- EWD998 reaches the state before each line
   pub reachable :
       (h : 0 < n) (i : ℕ)
-      → ringAgreement.Reachable h (ringView.varsOf n (runOf ringCounts.ring r (said asks i)))
-      (ringAgreement.sendsMade (runOf ringCounts.ring r (said asks i)))
+      → ringAgreement.Reachable h (ringView.varsOf n (runOf ring r (said asks i)))
+      (ringAgreement.sendsMade (runOf ring r (said asks i)))
 
 -- ---- a tree's log
 
@@ -155,37 +135,37 @@ pub record TreeLog (s : List ℕ) (lines : List (List ℕ)) (n root : ℕ) (t : 
   -- `(ok 1)`, the answers, and the end line: N, the tree's text, acknowledgements in transit
   pub output :
       outputOf s
-      ≡ answerText 1 Accepted ++ (answers treeCounts.tree t asks ++ treeEnd (runOf treeCounts.tree t (requestsIn asks)))
+      ≡ answerText 1 Accepted ++ (answers tree t asks ++ treeEnd (runOf tree t (requestsIn asks)))
   -- `(announce)` is answered with ok only if every node is passive and no message is in transit, counted from the start and the requests
   -- accepted before it
-  pub quiet : (i : ℕ) → AnnouncedAt treeCounts.tree t asks lines i → treeCounts.QuietBy t (said asks i)
+  pub quiet : (i : ℕ) → AnnouncedAt tree t asks lines i → treeCounts.QuietBy t (said asks i)
   -- and no line after it
-  pub last : (i j : ℕ) → i < j → AnnouncedAt treeCounts.tree t asks lines i → OkAt treeCounts.tree t asks j → ⊥
+  pub last : (i j : ℕ) → i < j → AnnouncedAt tree t asks lines i → OkAt tree t asks j → ⊥
   -- once every node is passive and no message is in transit, and until the announcement: A + 2E acknowledgements and leavings are left
   pub countdown :
-      (i : ℕ) → treeCounts.QuietBy t (said asks i) → NoneBefore treeCounts.tree t asks lines i
-      → CountsDown treeCounts.tree t asks lines (λ x. Closing (treeCounts.kind x)) i (stepsBy t (said asks i))
+      (i : ℕ) → treeCounts.QuietBy t (said asks i) → NoneBefore tree t asks lines i
+      → CountsDown tree t asks lines (λ x. Closing (treeCounts.kind x)) i (stepsBy t (said asks i))
   -- demand 3 at each line, of all requests that could come next there
   pub point : (i : ℕ) → treeRuns.Point t (said asks i)
   -- document 003 reaches the state before each line
   pub reachable :
       (h : root < n) (i : ℕ)
-      → treeAgreement.Reachable {N = n} (record { nr = root; below = h }) (treeView.systemsOf n (runOf treeCounts.tree t (said asks i)))
-      (runOf treeCounts.tree t (said asks i) .sends)
+      → treeAgreement.Reachable {N = n} (record { nr = root; below = h }) (treeView.systemsOf n (runOf tree t (said asks i)))
+      (runOf tree t (said asks i) .sends)
 
 -- ---- the log
 
 -- by the verdict on the first line: "After a bad or missing first line the program prints only that refusal"
-abbrev pub Told : List ℕ → List (List ℕ) → Asked → Verdict → Type 0
-Told s lines a (Refused e) = outputOf s ≡ answerText 1 (Refused e)
-Told s lines (ring-start n active black) Accepted = RingLog s lines n (ringStart.startOf n (flagsTo active black n) .state)
-Told s lines (tree-start n root) Accepted = TreeLog s lines n root (treeStart.startOf n root .state)
-Told s lines no-start Accepted = ⊥
+abbrev pub LogBy : List ℕ → List (List ℕ) → Asked → Verdict → Type 0
+LogBy s lines a (Refused e) = outputOf s ≡ answerText 1 (Refused e)
+LogBy s lines (ring-start n active black) Accepted = RingLog s lines n (ringStart.startOf n (flagsTo active black n) .state)
+LogBy s lines (tree-start n root) Accepted = TreeLog s lines n root (treeStart.startOf n root .state)
+LogBy s lines no-start Accepted = ⊥
 
 -- its first line is missing; or it asks for a start or for none, and the verdict on that decides
 pub record Log (s : List ℕ) : Type 0 where
   pub missing : linesOf s ≡ [] → outputOf s ≡ bytes "(no 1 10)\n"
-  pub begins : (l : List ℕ) (lines : List (List ℕ)) → linesOf s ≡ l ∷ lines → (a : Asked) × FirstAsks l a × Told s lines a (firstVerdict a)
+  pub begins : (l : List ℕ) (lines : List (List ℕ)) → linesOf s ≡ l ∷ lines → (a : Asked) × FirstAsks l a × LogBy s lines a (firstVerdict a)
 
 abbrev pub WholeLog : Type 0
 WholeLog = (s : List ℕ) → Log s
