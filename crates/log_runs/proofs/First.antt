@@ -1,6 +1,6 @@
 -- What a line asks for, and what a first line begins. Assumes nothing.
 use Prim.Native.Nat.{_+_, _<_, _≤_, suc, zero, ℕ}
-use borrow.Author.Tests.{le-leb, le-ltb, leb-true, lt-leb, lt-ltb, ltb-false, ltb-true, not-false}
+use borrow.Author.Tests.{le-leb, le-ltb, leb-true, lt-leb, lt-ltb, ltb-false, ltb-true}
 use lib.Dec.{leb, ltb}
 use lib.ListN.{List·getD-append, getD, length, length-append, take}
 use lib.Seq.{ext-getD, getD-at, getD-take, length-take-le}
@@ -24,12 +24,12 @@ use Rattle.log_rules.proofs.Ends.{form-ended}
 use Rattle.log_rules.proofs.Theorems.{lines-say, says-first, says-itself}
 use Rattle.log_rules.specs.Answers.{Stage, firstTold, fresh, lineTold, onRing, onTree, opened}
 use Rattle.log_rules.specs.Pieces.{OneLine, PartLine}
-use Rattle.refusal.proofs.Table.{none-holds}
-use Rattle.refusal.specs.Table.{NoneHolds, _⟶_, also, firstOf, none}
+use Rattle.refusal.proofs.Table.{not-both}
+use Rattle.refusal.specs.Table.{_⟶_, firstOf}
 use Rattle.refusal.specs.declared.Refusal.the-variants.{NodeCount, UnknownNode}
 use Rattle.refusal.specs.declared.Verdict.{Verdict}
 use Rattle.refusal.specs.declared.Verdict.the-variants.{Accepted, Refused}
-use Rattle.log_runs.specs.First.{Asked, FirstAsks, allBelow, begun, firstVerdict, flagsTo, meant, no-start, startRows}
+use Rattle.log_runs.specs.First.{Asked, FirstAsks, allBelow, begun, inRange, firstVerdict, flagsTo, meant, no-start, startRows}
 use Rattle.log_runs.specs.Says.{Asks, cut, other, says}
 use Rattle.forms.specs.Read as read
 use Rattle.log_rules.proofs.Ends as ends
@@ -86,7 +86,7 @@ below-test n (k ∷ ks) =
 pub flags-length : (active black : List ℕ) (n : ℕ) → length (flagsTo active black n) ≡ n
 unfolding flagsTo
 flags-length a b zero = refl
-flags-length a b (suc n) = omega (arith, length-append (flagsTo a b n) (flagByte (named a n) (named b n) ∷ []), flags-length a b n)
+flags-length a b (suc n) = length-append (flagsTo a b n) _ ∙ omega (arith, flags-length a b n)
 
 pub flags-at : (active black : List ℕ) (n i : ℕ) → i < n → getD (flagsTo active black n) i 0 ≡ flagByte (named active i) (named black i)
 unfolding flagsTo
@@ -107,15 +107,24 @@ flags-at a b (suc n) i h = go (flags-at a b n i) (decLt i n)
 abbrev known : ℕ → List ℕ → List ℕ → Bool
 known n a b = allBelow n a && allBelow n b
 
-range : {most n : ℕ} {k : Bool} → NoneHolds (startRows most n k) → (0 < n) × (n ≤ most) × (k ≡ true)
-range {most} {n} {k} (also p (also q none)) =
-    let w = both (ltb 0 n) (leb n most) (not-false _ p) in (ltb-true 0 n (w .0), leb-true n most (w .1), not-false k q)
+-- no row applies
+passed : (c k : Bool) → firstOf (startRows c k) ≡ Accepted → (c ≡ true) × (k ≡ true)
+passed true true e = (refl, refl)
+passed true false e = absurd (not-both e refl)
+passed false true e = absurd (not-both e refl)
+passed false false e = absurd (not-both e refl)
+
+range : (most n : ℕ) (k : Bool) → firstOf (startRows (inRange most n) k) ≡ Accepted → (0 < n) × (n ≤ most) × (k ≡ true)
+range most n k e =
+    let p = passed (inRange most n) k e in
+    let w = both (ltb 0 n) (leb n most) (p .0) in
+    (ltb-true 0 n (w .0), leb-true n most (w .1), p .1)
 
 pub ring-accepted :
     (n : ℕ) (active black : List ℕ) → firstVerdict (Asked.ring-start n active black) ≡ Accepted
     → ringStart.startVerdict n (flagsTo active black n) ≡ Accepted
 ring-accepted n a b e =
-    let w = range {most = 96} {n = n} {k = known n a b} (none-holds _ e) in
+    let w = range 96 n (known n a b) e in
     ringLaws.accepted-start n (flagsTo a b n) (record {
       some-node = w .0;
       nodes = w .1;
@@ -125,7 +134,7 @@ ring-accepted n a b e =
 
 pub tree-accepted : (n root : ℕ) → firstVerdict (Asked.tree-start n root) ≡ Accepted → treeStart.startVerdict n root ≡ Accepted
 tree-accepted n root e =
-    let w = range {most = 16} {n = n} {k = ltb root n} (none-holds _ e) in
+    let w = range 16 n (ltb root n) e in
     treeLaws.accepted-start n root (record { some-node = w .0; nodes = w .1; root-in = ltb-true root n (w .2) })
 
 -- ---- and is answered so
@@ -152,7 +161,7 @@ ring-told :
     → firstTold (ringFirst n flags top e .kind) (ringFirst n flags top e)
     ≡ opened (firstVerdict (Asked.ring-start n a b)) (begun (Asked.ring-start n a b))
 ring-told n top e flags a b m =
-    ap (λ (t : Bool). opened (firstOf ((not (ltb 0 n && leb n 96) ⟶ NodeCount) ∷ (t ⟶ UnknownNode) ∷ [])) (onRing (ringStart.firstState n (take n flags)) 0))
+    ap (λ (t : Bool). opened (firstOf ((not (inRange 96 n) ⟶ NodeCount) ∷ (t ⟶ UnknownNode) ∷ [])) (onRing (ringStart.firstState n (take n flags)) 0))
     (top-known n a b m)
     ∙ opened-same (firstVerdict (Asked.ring-start n a b)) same
   where
@@ -166,7 +175,7 @@ ring-told n top e flags a b m =
 
     same : firstVerdict (Asked.ring-start n a b) ≡ Accepted → onRing (ringStart.firstState n (take n flags)) 0 ≡ begun (Asked.ring-start n a b)
     same v =
-        let w = range {most = 96} {n = n} {k = known n a b} (none-holds _ v) in
+        let w = range 96 n (known n a b) v in
         ap (λ (x : List ℕ). onRing (ringStart.firstState n x) 0) (places (w .1))
         ∙ ap (λ (r : _). onRing r 0) (sym (ringTheorems.start-answered .first n (flagsTo a b n) (ring-accepted n a b v)))
 
@@ -183,7 +192,7 @@ tree-told :
     ≡ opened (firstVerdict (Asked.tree-start n root)) (begun (Asked.tree-start n root))
 unfolding treeStart.startVerdict
 tree-told n root =
-    ap (λ (t : Bool). opened (firstOf ((not (ltb 0 n && leb n 16) ⟶ NodeCount) ∷ (t ⟶ UnknownNode) ∷ [])) (onTree (treeStart.firstState n root)))
+    ap (λ (t : Bool). opened (firstOf ((not (inRange 16 n) ⟶ NodeCount) ∷ (t ⟶ UnknownNode) ∷ [])) (onTree (treeStart.firstState n root)))
     (root-known n root)
     ∙ opened-same (firstVerdict (Asked.tree-start n root))
     (λ v. ap onTree (sym (treeTheorems.start-answered .first n root (tree-accepted n root v))))

@@ -39,17 +39,21 @@ abbrev pub allBelow : ℕ → List ℕ → Bool
 allBelow n [] = true
 allBelow n (k ∷ ks) = ltb k n && allBelow n ks
 
+-- one node at least, and at most so many
+abbrev pub inRange : ℕ → ℕ → Bool
+inRange most n = ltb 0 n && leb n most
+
 -- "start | 1 | boards outside 1 to 96 (tree 1 to 16)", then "step, start | 6 | a board number that is used is N or more"
-abbrev pub startRows : ℕ → ℕ → Bool → List Row
-startRows most n known = (not (ltb 0 n && leb n most) ⟶ NodeCount) ∷ (not known ⟶ UnknownNode) ∷ []
+abbrev pub startRows : Bool → Bool → List Row
+startRows count known = (not count ⟶ NodeCount) ∷ (not known ⟶ UnknownNode) ∷ []
 
 -- "log line | 10 | not one of the forms below" comes before both
 abbrev pub firstVerdict : Asked → Verdict
-firstVerdict (ring-start n active black) = firstOf (startRows 96 n (allBelow n active && allBelow n black))
-firstVerdict (tree-start n root) = firstOf (startRows 16 n (ltb root n))
+firstVerdict (ring-start n active black) = firstOf (startRows (inRange 96 n) (allBelow n active && allBelow n black))
+firstVerdict (tree-start n root) = firstOf (startRows (inRange 16 n) (ltb root n))
 firstVerdict no-start = Refused NotAForm
 
--- the run that an accepted first line begins: the state of that start, no token move counted
+-- the run that an accepted first line begins: the state of that start, no token move inRange
 abbrev pub begun : Asked → Stage
 begun (ring-start n active black) = onRing (ringStart.startOf n (flagsTo active black n) .state) 0
 begun (tree-start n root) = onTree (treeStart.startOf n root .state)
