@@ -197,7 +197,9 @@ tree-told n root =
     ∙ opened-same (firstVerdict (Asked.tree-start n root))
     (λ v. ap onTree (sym (treeTheorems.start-answered .first n root (tree-accepted n root v))))
 
-start-told : {l : List ℕ} (f : Start) → Says l (startForm f) → firstTold (seen f 0 .kind) (seen f 0) ≡ opened (firstVerdict (meant f)) (begun (meant f))
+start-told :
+    {l : List ℕ} (f : Start) → Says l (startForm f)
+    → firstTold (seen f 0 .kind) (seen f 0) ≡ opened (firstVerdict (meant f)) (begun (meant f))
 start-told (bare n) s = ring-told n 0 0 _ [] [] (bare-mean n 0)
 start-told (lists n a b) s = ring-told n _ 0 _ a b (lists-mean n a b 0 (s .1 .0 .1) (s .1 .0 .2))
 start-told (tree n root) s = tree-told n root

@@ -3,3 +3,4 @@ pub mod Runs
 pub mod Detectors
 pub mod Theorems
 pub mod Whole
+pub mod Listing

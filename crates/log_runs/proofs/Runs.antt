@@ -278,17 +278,18 @@ module _ {F : Type 0} (d : Steps F) where
     unfolding acceptedOf
     unannounced zero h = refl
     unannounced (suc j) h =
+        let one = acceptedOf m (runOf m s (said qs j)) (requestsIn (getD qs j no-step ∷ [])) in
         ap (any (d .announces)) (accepted-next m s qs j)
-        ∙ (any-append (d .announces) (acceptedOf m s (said qs j)) (acceptedOf m (runOf m s (said qs j)) (requestsIn (getD qs j no-step ∷ [])))
-        ∙ (ap (λ (b : Bool). b || any (d .announces) (acceptedOf m (runOf m s (said qs j)) (requestsIn (getD qs j no-step ∷ []))))
-        (unannounced j (λ i k. h i (omega arith)))
-        ∙ here (getD qs j no-step) refl))
+        ∙ (any-append (d .announces) (acceptedOf m s (said qs j)) one
+        ∙ (ap (λ (b : Bool). b || any (d .announces) one) (unannounced j (λ i k. h i (omega arith))) ∙ here (getD qs j no-step) refl))
       where
         here : (a : Ask) → getD qs j no-step ≡ a → any (d .announces) (acceptedOf m (runOf m s (said qs j)) (requestsIn (a ∷ []))) ≡ false
         here no-step e = refl
         here (request x) e = go (m .verdict (runOf m s (said qs j)) x) refl (d .announces x) refl
           where
-            go : (v : Verdict) → m .verdict (runOf m s (said qs j)) x ≡ v → (b : Bool) → d .announces x ≡ b → any (d .announces) (settle v (x ∷ []) []) ≡ false
+            go :
+                (v : Verdict) → m .verdict (runOf m s (said qs j)) x ≡ v → (b : Bool) → d .announces x ≡ b
+                → any (d .announces) (settle v (x ∷ []) []) ≡ false
             go (Refused f) p b y = refl
             go Accepted p false y = rw y
             go Accepted p true y = absurd (h j (omega arith) (announce-only (each-at c j) e y, ap (judged m (runOf m s (said qs j))) e ∙ p))

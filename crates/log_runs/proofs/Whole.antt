@@ -118,7 +118,7 @@ module _ (n : ℕ) (flags : List ℕ) (started : ringStart.startVerdict n flags 
         let d = point i .countdown quiet (unannounced ring-steps ringCounts.ring ring-first c i none) in (
           d .K,
           subst (λ (k : ℕ). d .K ≤ 3 * k - 2) ring-nodes (d .bound),
-          counts-down ring-steps ringCounts.ring ring-first c i (d .K) (λ ys u. ring-left (d .counted ys (u))),
+          counts-down ring-steps ringCounts.ring ring-first c i (d .K) (λ ys u. ring-left (d .counted ys u)),
         );
     point = point;
     received = λ i b. ringRuns.whole-runs .from-start n flags started (said qs i) b .0;
@@ -133,7 +133,7 @@ module _ (n : ℕ) (flags : List ℕ) (started : ringStart.startVerdict n flags 
           ≡ ringEnd (runOf ringCounts.ring ring-first (requestsIn qs)) (movesIn (acceptedOf ringCounts.ring ring-first (requestsIn qs)))
       end =
           ap endText (log-runs .ring-state ring-first 0 2 (qs, c, refl))
-          ∙ ap (ringEnd (runOf ringCounts.ring ring-first (requestsIn qs))) (zero-add (movesIn (acceptedOf ringCounts.ring ring-first (requestsIn qs))))
+          ∙ ap (ringEnd (runOf ringCounts.ring ring-first (requestsIn qs))) (zero-add _)
 
 -- ---- a tree
 
@@ -201,9 +201,7 @@ whole-log s = record {
   missing = λ e. lines-read .output s ∙ (ap (linesTold fresh 1) e ∙ nothing-told);
   begins = λ l ls e.
       let read = subst (λ (ts : List (List ℕ)). (s′ : List ℕ) × LinesOf s′ ts) e (read-lines s) in
-      let first = log-runs .first-asks (read .1) in (
-        first .0,
-        first .1,
-        told-by s l ls (lines-read .output s ∙ ap (linesTold fresh 1) e) (later-lines (read .1) .1) (first .0) (first .1) (firstVerdict (first .0)) refl,
-      );
+      let first = log-runs .first-asks (read .1) in
+      let output = lines-read .output s ∙ ap (linesTold fresh 1) e in
+      (first .0, first .1, told-by s l ls output (later-lines (read .1) .1) (first .0) (first .1) (firstVerdict (first .0)) refl);
 }
