@@ -83,12 +83,12 @@ below-test n (k ∷ ks) =
       λ b. both-true (lt-ltb k n (b .0)) (ih .1 (b .1)),
     )
 
-pub flags-length : (active black : List ℕ) (n : ℕ) → length (flagsTo active black n) ≡ n
+flags-length : (active black : List ℕ) (n : ℕ) → length (flagsTo active black n) ≡ n
 unfolding flagsTo
 flags-length a b zero = refl
 flags-length a b (suc n) = length-append (flagsTo a b n) _ ∙ omega (arith, flags-length a b n)
 
-pub flags-at : (active black : List ℕ) (n i : ℕ) → i < n → getD (flagsTo active black n) i 0 ≡ flagByte (named active i) (named black i)
+flags-at : (active black : List ℕ) (n i : ℕ) → i < n → getD (flagsTo active black n) i 0 ≡ flagByte (named active i) (named black i)
 unfolding flagsTo
 flags-at a b zero i h = absurd (let z : ⊥ = omega arith in z)
 flags-at a b (suc n) i h = go (flags-at a b n i) (decLt i n)

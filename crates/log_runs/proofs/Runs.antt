@@ -101,10 +101,10 @@ said-next (no-step ∷ qs) zero = refl
 said-next (no-step ∷ qs) (suc i) = said-next qs i
 
 -- those of lines 2 + i to 1 + j
-pub between : List Ask → ℕ → ℕ → List Request
+between : List Ask → ℕ → ℕ → List Request
 between qs i j = requestsIn (take (j - i) (drop i qs))
 
-pub said-later : (qs : List Ask) (i j : ℕ) → i ≤ j → said qs j ≡ said qs i ++ between qs i j
+said-later : (qs : List Ask) (i j : ℕ) → i ≤ j → said qs j ≡ said qs i ++ between qs i j
 unfolding between
 said-later qs i j h =
     let e : j ≡ i + (j - i) = omega arith in
@@ -113,12 +113,12 @@ said-later qs i j h =
 -- ---- how many are accepted
 
 module _ {S : Type 0} (m : Machine S) (s : S) (qs : List Ask) where
-  pub accepted-later :
+  accepted-later :
       (i j : ℕ) → i ≤ j
       → acceptedOf m s (said qs j) ≡ acceptedOf m s (said qs i) ++ acceptedOf m (runOf m s (said qs i)) (between qs i j)
   accepted-later i j h = ap (acceptedOf m s) (said-later qs i j h) ∙ accepted-append m s (said qs i) (between qs i j)
 
-  pub accepted-next :
+  accepted-next :
       (i : ℕ)
       → acceptedOf m s (said qs (suc i))
       ≡ acceptedOf m s (said qs i) ++ acceptedOf m (runOf m s (said qs i)) (requestsIn (getD qs i no-step ∷ []))
@@ -133,7 +133,7 @@ module _ {S : Type 0} (m : Machine S) (s : S) (qs : List Ask) where
       go Accepted = refl
       go (Refused e) = refl
 
-  pub oks-accepted : (i : ℕ) → oks m s qs i ≡ length (acceptedOf m s (said qs i))
+  oks-accepted : (i : ℕ) → oks m s qs i ≡ length (acceptedOf m s (said qs i))
   unfolding acceptedOf
   oks-accepted zero = refl
   oks-accepted (suc i) =
@@ -147,7 +147,7 @@ module _ {S : Type 0} (m : Machine S) (s : S) (qs : List Ask) where
         ap length (accepted-next i),
       )
 
-  pub oks-later : (i j : ℕ) → i ≤ j → oks m s qs j ≡ oks m s qs i + length (acceptedOf m (runOf m s (said qs i)) (between qs i j))
+  oks-later : (i j : ℕ) → i ≤ j → oks m s qs j ≡ oks m s qs i + length (acceptedOf m (runOf m s (said qs i)) (between qs i j))
   oks-later i j h =
       omega (
         arith,
@@ -158,7 +158,7 @@ module _ {S : Type 0} (m : Machine S) (s : S) (qs : List Ask) where
       )
 
   -- where nothing more is accepted, no line is answered with ok
-  pub none-ok : (i : ℕ) → ((ys : List Request) → acceptedOf m (runOf m s (said qs i)) ys ≡ []) → (j : ℕ) → i ≤ j → OkAt m s qs j → ⊥
+  none-ok : (i : ℕ) → ((ys : List Request) → acceptedOf m (runOf m s (said qs i)) ys ≡ []) → (j : ℕ) → i ≤ j → OkAt m s qs j → ⊥
   none-ok i none j h ok =
       let still = oks-later i j h in
       let again = oks-later i (suc j) (omega arith) in
@@ -166,7 +166,7 @@ module _ {S : Type 0} (m : Machine S) (s : S) (qs : List Ask) where
       let z : ⊥ = omega (arith, ap length (none (between qs i j)), ap length (none (between qs i (suc j))), one) in z
 
   -- a line is answered with ok if it asks for a request that is accepted there
-  pub ok-request : (i : ℕ) → OkAt m s qs i → (x : Request) × (getD qs i no-step ≡ request x) × Accepts m (runOf m s (said qs i)) x
+  ok-request : (i : ℕ) → OkAt m s qs i → (x : Request) × (getD qs i no-step ≡ request x) × Accepts m (runOf m s (said qs i)) x
   ok-request i = go (getD qs i no-step) refl
     where
       go :
@@ -230,7 +230,7 @@ module _ {F : Type 0} (d : Steps F) where
   each-at (line p c) (suc i) = each-at c i
 
   -- a line `(announce)` asks for the announcement
-  pub announce-asks :
+  announce-asks :
       {ls : List (List ℕ)} {qs : List Ask} → Each LineAsks ls qs → (i : ℕ) → Says (getD ls i []) announce
       → getD qs i no-step ≡ request (d .asked (d .last))
   announce-asks {ls} c i q =
@@ -295,7 +295,7 @@ module _ {F : Type 0} (d : Steps F) where
             go Accepted p true y = absurd (h j (omega arith) (announce-only (each-at c j) e y, ap (judged m (runOf m s (said qs j))) e ∙ p))
 
     -- so the later ones say no more
-    pub unannounced-between :
+    unannounced-between :
         (i j : ℕ) → i ≤ j → NoneBefore m s qs ls j
         → any (d .announces) (acceptedOf m (runOf m s (said qs i)) (between qs i j)) ≡ false
     unannounced-between i j h none =
