@@ -9,4 +9,3 @@ pub mod Starts
 pub mod Agreed
 pub mod Behaviours
 pub mod Agreement
-pub mod StarredRuns

@@ -4,4 +4,3 @@ pub mod DijkstraScholten
 pub mod View
 pub mod Agreement
 pub mod Requests
-pub mod StarredRuns

@@ -1,5 +1,4 @@
 pub mod Printed
-pub mod Cases
 pub mod Lists
 pub mod Texts
 pub mod Trees

@@ -2,4 +2,3 @@ pub mod Text
 pub mod Write
 pub mod Read
 pub mod Theorems
-pub mod Cases

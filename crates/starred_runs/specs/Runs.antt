@@ -1,0 +1,81 @@
+-- Document 01, "Runs to check".
+use Prim.Native.Nat.{ℕ}
+use lib.ListN.{replicate}
+use mathlib.Core.List.{List, [], _∷_}
+use Rattle.starred_runs.specs.Case.{Case, _is_, conclusive, drives, holder-after, quiet-then, quiet-with, ring-run, ring-start, spent, tree-run, tree-start}
+use Rattle.ring_rules.specs.Start as ringStart
+use Rattle.ring_rules.specs.State as ringState
+use Rattle.ring_runs.specs.Requests as ring
+use Rattle.tree_rules.specs.Start as treeStart
+use Rattle.tree_rules.specs.State as treeState
+use Rattle.tree_runs.specs.Requests as tree
+use Rattle.starred_runs.specs.RingStates as rings
+use Rattle.starred_runs.specs.TreeStates as trees
+
+abbrev pub ringOf : ℕ → List ℕ → ringState.State
+ringOf n flags = ringStart.startOf n flags .state
+
+abbrev pub treeOf : ℕ → ℕ → treeState.State
+treeOf n root = treeStart.startOf n root .state
+
+unfoldable pub runs : List Case
+runs =
+    -- "The listing above: four moves, the bound for N = 2."
+    ring-run (ringOf 2 (0 ∷ 2 ∷ []))
+    (ring.announce is 8
+    ∷ ring.probe is 0
+    ∷ ring.pass 1 is 0
+    ∷ ring.announce is 8
+    ∷ ring.probe is 0
+    ∷ ring.pass 1 is 0
+    ∷ ring.announce is 0
+    ∷ ring.pass 1 is 4
+    ∷ [])
+    ∷ quiet-then (ringOf 2 (0 ∷ 2 ∷ [])) [] 4
+    -- "(ring 3 (active 1) (black)), probe, pass 2, send 1 2, take 2, idle 1, idle 2: quiet at holder 1, then 7 moves."
+    ∷ holder-after (ringOf 3 (0 ∷ 1 ∷ 0 ∷ []))
+    (ring.probe ∷ ring.pass 2 ∷ ring.send 1 2 ∷ ring.take 2 ∷ ring.idle 1 ∷ ring.idle 2 ∷ [])
+    1
+    ∷ quiet-then (ringOf 3 (0 ∷ 1 ∷ 0 ∷ []))
+    (ring.probe ∷ ring.pass 2 ∷ ring.send 1 2 ∷ ring.take 2 ∷ ring.idle 1 ∷ ring.idle 2 ∷ [])
+    7
+    -- "(ring 3 (active 0 2) (black)), probe, send 2 0, take 0, idle 0, idle 2: then 5 moves."
+    ∷ quiet-then (ringOf 3 (1 ∷ 0 ∷ 1 ∷ [])) (ring.probe ∷ ring.send 2 0 ∷ ring.take 0 ∷ ring.idle 0 ∷ ring.idle 2 ∷ []) 5
+    -- "N = 1, idle: one probe, then announce."
+    ∷ ring-run (ringOf 1 (0 ∷ [])) (ring.announce is 8 ∷ ring.probe is 0 ∷ ring.announce is 0 ∷ [])
+    ∷ quiet-then (ringOf 1 (0 ∷ [])) [] 1
+    -- "N = 0 and N = 97: 1. N = 96: accepted." (tree 1 to 16)
+    ∷ ring-start 0 [] 1
+    ∷ ring-start 97 (replicate 97 0) 1
+    ∷ ring-start 96 (replicate 96 3) 0
+    ∷ tree-start 0 0 1
+    ∷ tree-start 17 0 1
+    ∷ tree-start 16 15 0
+    -- "Tree of 3, root 0: send 0 1, take 1 0, idle 0, idle 1, leave 1; announce is 8; ack 0; announce accepted."
+    ∷ tree-run (treeOf 3 0)
+    (tree.send 0 1 is 0
+    ∷ tree.take 1 0 is 0
+    ∷ tree.idle 0 is 0
+    ∷ tree.idle 1 is 0
+    ∷ tree.leave 1 is 0
+    ∷ tree.announce is 8
+    ∷ tree.ack 0 is 0
+    ∷ tree.announce is 0
+    ∷ tree.announce is 4
+    ∷ [])
+    -- on its way A + 2E is 2, 1 and 0
+    ∷ quiet-with (treeOf 3 0) (tree.send 0 1 ∷ tree.take 1 0 ∷ tree.idle 0 ∷ tree.idle 1 ∷ []) 0 1
+    ∷ quiet-with (treeOf 3 0) (tree.send 0 1 ∷ tree.take 1 0 ∷ tree.idle 0 ∷ tree.idle 1 ∷ tree.leave 1 ∷ []) 1 0
+    ∷ quiet-with (treeOf 3 0) (tree.send 0 1 ∷ tree.take 1 0 ∷ tree.idle 0 ∷ tree.idle 1 ∷ tree.leave 1 ∷ tree.ack 0 ∷ []) 0 0
+    ∷ tree-run (treeOf 1 0) (tree.idle 0 is 0 ∷ tree.announce is 0 ∷ tree.idle 0 is 4 ∷ tree.announce is 4 ∷ [])
+    -- "take on pending 0: 8. send 2 2 by an idle board: 7."
+    ∷ ring-run (ringOf 3 (0 ∷ 0 ∷ 0 ∷ [])) (ring.take 0 is 8 ∷ ring.send 2 2 is 7 ∷ [])
+    ∷ tree-run (treeOf 3 0) (tree.take 1 0 is 8 ∷ tree.send 2 2 is 7 ∷ [])
+    -- "Driver on the first start with M = 3: spent, 3 moves; M = 4: conclusive, 4."
+    ∷ drives (ringOf 2 (0 ∷ 2 ∷ [])) 3 spent 3
+    ∷ drives (ringOf 2 (0 ∷ 2 ∷ [])) 4 conclusive 4
+    -- "By calls, on a sound state with 999,999 accepted sends: one more is accepted; the next: 9." (And takes never meet it.)
+    ∷ ring-run (rings.handed (rings.active 0 ∷ rings.sent 0 999999 ∷ rings.received 1 999999 ∷ []))
+    (ring.send 0 1 is 0 ∷ ring.send 0 1 is 9 ∷ ring.take 1 is 0 ∷ ring.send 1 0 is 9 ∷ [])
+    ∷ tree-run (trees.handed (trees.sends 999999 ∷ [])) (tree.send 0 1 is 0 ∷ tree.send 0 1 is 9 ∷ tree.take 1 0 is 0 ∷ tree.send 1 0 is 9 ∷ [])
+    ∷ []
