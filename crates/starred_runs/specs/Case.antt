@@ -44,16 +44,17 @@ infix 70 _is_
 abbrev pub _is_ : Request → ℕ → Asked
 x is k = record { request = x; number = k }
 
--- the tests that soundness is made of, in their order; a test of every place is one
+-- the tests that soundness is made of, in their order; a test of every place is one. (The very first, of the columns' lengths, holds of every
+-- state that can be handed in.)
 pub data RingTest : Type 0 where
-  Shape Range Flow Sum Safra Unused Announced : RingTest
+  Range Flow Sum Safra Unused Announced : RingTest
 
 pub data TreeTest : Type 0 where
-  Shape Range Engagers Chains Balance Resting Pairs Limit Announced : TreeTest
+  Range Engagers Chains Balance Resting Pairs Limit Announced : TreeTest
 
 -- Safra's four
-pub data Safra's : Type 0 where
-  Gathered Positive BlackNode BlackToken : Safra's
+pub data SafraTest : Type 0 where
+  Gathered Positive BlackNode BlackToken : SafraTest
 
 pub data Case : Type 0 where
   -- a start of n nodes with these flags, or with this root, is answered with this number
@@ -73,7 +74,7 @@ pub data Case : Type 0 where
   drives : ring.State → ℕ → ℕ → ℕ → Case
   -- the ring is sound; it is sound by one of Safra's four alone; of the tests of soundness this one alone fails, and 3 is the answer
   ring-sound : ring.State → Case
-  sound-by : Safra's → ring.State → Case
+  sound-by : SafraTest → ring.State → Case
   ring-unsound : RingTest → ring.State → Case
   -- the tree is sound; of the tests of soundness these alone fail, and 3 is the answer
   tree-sound : tree.State → Case
@@ -161,7 +162,6 @@ ringTests r =
     ∷ []
 
 abbrev pub ringPlace : RingTest → ℕ
-ringPlace Shape = 0
 ringPlace Range = 1
 ringPlace Flow = 2
 ringPlace Sum = 3
@@ -183,7 +183,6 @@ treeTests t =
     ∷ []
 
 abbrev pub treePlace : TreeTest → ℕ
-treePlace Shape = 0
 treePlace Range = 1
 treePlace Engagers = 2
 treePlace Chains = 3
@@ -207,8 +206,8 @@ treeTold t = codeOf (treeRuns.tree .verdict t treeRequests.announce) ∷ written
 abbrev pub isRingSound : ring.State → Bool
 isRingSound r = failAt [] 0 (ringTests r) && not (among 3 (ringTold r))
 
-abbrev pub safra's : ring.State → List Bool
-safra's r =
+abbrev pub safraTests : ring.State → List Bool
+safraTests r =
     ringSound.gatheredTest r
     ∷ isPositive (r .q +ℤ ring.countersTo r (r .pos + 1))
     ∷ not (ringSound.whiteTo (r .color) (r .pos + 1))
@@ -216,7 +215,7 @@ safra's r =
     ∷ []
 
 -- the places of the other three
-abbrev pub others : Safra's → List ℕ
+abbrev pub others : SafraTest → List ℕ
 others Gathered = 1 ∷ 2 ∷ 3 ∷ []
 others Positive = 0 ∷ 2 ∷ 3 ∷ []
 others BlackNode = 0 ∷ 1 ∷ 3 ∷ []
@@ -252,7 +251,7 @@ passes (quiet-with t xs a e) =
     && (eqb (acksTotal (runOf treeRuns.tree t xs)) a && eqb (engagedOthers (runOf treeRuns.tree t xs)) e))
 passes (drives r m e k) = drivesTo r m e k
 passes (ring-sound r) = isRingSound r
-passes (sound-by c r) = isRingSound r && failAt (others c) 0 (safra's r)
+passes (sound-by c r) = isRingSound r && failAt (others c) 0 (safraTests r)
 passes (ring-unsound c r) = failAt (ringPlace c ∷ []) 0 (ringTests r) && sameList (ringTold r) (3 ∷ 3 ∷ [])
 passes (tree-sound t) = failAt [] 0 (treeTests t) && not (among 3 (treeTold t))
 passes (tree-unsound cs t) = failAt (treePlaces cs) 0 (treeTests t) && sameList (treeTold t) (3 ∷ 3 ∷ [])

@@ -2,5 +2,10 @@ pub mod RingStates
 pub mod TreeStates
 pub mod Case
 pub mod Runs
+pub mod RingSoundness
+pub mod TreeSoundness
+pub mod Refusals
+pub mod Limits
+pub mod Numbers
 pub mod Texts
 pub mod Table

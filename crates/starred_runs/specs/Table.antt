@@ -1,13 +1,34 @@
--- The one table: document 01's starred runs and the rows of its other headings. proofs/Table.antt computes it.
+-- The one table: document 01's starred runs, and the rows of its other headings. proofs/Table.antt computes it.
 use mathlib.Core.Bool.{true}
 use mathlib.Core.List.{List, _++_}
 use mathlib.Core.Path.{_≡_}
 use Rattle.starred_runs.specs.Case.{Case, allPass}
+use Rattle.starred_runs.specs.Limits.{limits}
+use Rattle.starred_runs.specs.Numbers.{numbers}
+use Rattle.starred_runs.specs.Refusals.{order, outside}
 use Rattle.starred_runs.specs.Runs.{runs}
 use Rattle.starred_runs.specs.Texts.{texts}
+use Rattle.starred_runs.specs.RingSoundness as ring
+use Rattle.starred_runs.specs.TreeSoundness as tree
+
+-- "A ring state is sound if"
+unfoldable pub rings : List Case
+rings = ring.range ++ (ring.flow ++ (ring.sums ++ (ring.safra ++ (ring.unused ++ ring.announced))))
+
+-- "Sound", of the tree
+unfoldable pub trees : List Case
+trees = tree.chains ++ (tree.balance ++ (tree.resting ++ (tree.limit ++ (tree.unused ++ (tree.range ++ tree.announced)))))
+
+-- "Where a request is turned back"
+unfoldable pub refusals : List Case
+refusals = order ++ (outside ++ limits)
+
+-- the numbers and the texts that answers are made of
+unfoldable pub written : List Case
+written = numbers ++ texts
 
 unfoldable pub table : List Case
-table = runs ++ texts
+table = runs ++ (rings ++ (trees ++ (refusals ++ written)))
 
 abbrev pub AllPass : Type 0
 AllPass = allPass table ≡ true
