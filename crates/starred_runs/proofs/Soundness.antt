@@ -1,14 +1,13 @@
 -- Soundness, clause by clause, by one computation over the definitions. Assumes nothing.
 use mathlib.Core.Bool.{true}
 use mathlib.Core.Path.{_≡_, refl}
-use Rattle.color.specs.Colors.{blackened, isBlack, whitened}
+use Rattle.color.specs.Colors.{blackened, isBlack}
 use Rattle.decimal.specs.Text.{decimal, digits}
 use Rattle.laws.specs.Sums.{countTo, sumTo}
-use Rattle.ring_rules.specs.Driver.{driveFrom, driveOf, mayMove, moveOf}
+use Rattle.ring_rules.specs.Driver.{driveFrom, driveOf, mayMove}
 use Rattle.ring_rules.specs.Rules.{mayPass, mayProbe}
 use Rattle.ring_rules.specs.Soundness.{flowTest, gatheredTest, passiveAbove, safraTest, sumTest, unusedTest, whiteTo}
 use Rattle.signed.specs.Integers.{_⊖_, isPositive, isSame, isZero}
-use Rattle.tree_rules.specs.Rules.{mayLeave}
 use Rattle.tree_rules.specs.Soundness.{balanceTest, chainTest, engagerTest, limitTest, pairTest, placeTest, restTest}
 use Rattle.tree_rules.specs.State.{children, climb, messagesFrom}
 use Rattle.tree_text.specs.Text.{childrenText, nodeText}
@@ -26,9 +25,9 @@ use Rattle.starred_runs.specs.RingSoundness as rowsOfRing
 use Rattle.starred_runs.specs.TreeSoundness as rowsOfTree
 
 pub rings-pass : allPass rings ≡ true
-unfolding rings rowsOfRing.range rowsOfRing.flow rowsOfRing.sums rowsOfRing.safra rowsOfRing.unused rowsOfRing.announced passes allPass isBlack blackened whitened _⊖_ isPositive isZero isSame sumTo ringRules.conclusive ringSound.shapeTest ringSound.rangeTest flowTest sumTest passiveAbove whiteTo gatheredTest safraTest unusedTest ringSound.closedTest ringSound.soundTest mayProbe mayPass ring.verdictOf mayMove moveOf driveFrom driveOf
+unfolding rings rowsOfRing.range rowsOfRing.flow rowsOfRing.sums rowsOfRing.safra rowsOfRing.unused rowsOfRing.announced passes allPass isBlack blackened _⊖_ isPositive isZero isSame sumTo ringRules.conclusive ringSound.shapeTest ringSound.rangeTest flowTest sumTest passiveAbove whiteTo gatheredTest safraTest unusedTest ringSound.closedTest ringSound.soundTest mayProbe mayPass ring.verdictOf mayMove driveFrom driveOf
 rings-pass = refl
 
 pub trees-pass : allPass trees ≡ true
-unfolding trees rowsOfTree.chains rowsOfTree.balance rowsOfTree.resting rowsOfTree.limit rowsOfTree.unused rowsOfTree.range rowsOfTree.announced passes allPass sumTo countTo messagesFrom children climb treeRules.conclusive treeSound.shapeTest treeSound.rangeTest engagerTest chainTest balanceTest restTest pairTest placeTest limitTest treeSound.closedTest treeSound.soundTest mayLeave tree.verdictOf treeStart.firstState decimal digits childrenText nodeText writeVerdict writtenOf
+unfolding trees rowsOfTree.chains rowsOfTree.balance rowsOfTree.resting rowsOfTree.limit rowsOfTree.unused rowsOfTree.range rowsOfTree.announced passes allPass sumTo countTo messagesFrom children climb treeRules.conclusive treeSound.shapeTest treeSound.rangeTest engagerTest chainTest balanceTest restTest pairTest placeTest limitTest treeSound.closedTest treeSound.soundTest tree.verdictOf treeStart.firstState decimal digits childrenText nodeText writeVerdict writtenOf
 trees-pass = refl
