@@ -77,5 +77,6 @@ runs =
     -- "By calls, on a sound state with 999,999 accepted sends: one more is accepted; the next: 9." (And takes never meet it.)
     ∷ ring-run (rings.handed (rings.active 0 ∷ rings.sent 0 999999 ∷ rings.received 1 999999 ∷ []))
     (ring.send 0 1 is 0 ∷ ring.send 0 1 is 9 ∷ ring.take 1 is 0 ∷ ring.send 1 0 is 9 ∷ [])
-    ∷ tree-run (trees.handed (trees.sends 999999 ∷ [])) (tree.send 0 1 is 0 ∷ tree.send 0 1 is 9 ∷ tree.take 1 0 is 0 ∷ tree.send 1 0 is 9 ∷ [])
+    ∷ tree-run (trees.handed (trees.sends 999999 ∷ []))
+    (tree.send 0 1 is 0 ∷ tree.send 0 1 is 9 ∷ tree.take 1 0 is 0 ∷ tree.send 1 0 is 9 ∷ [])
     ∷ []
