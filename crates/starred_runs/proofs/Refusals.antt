@@ -24,8 +24,8 @@ use Rattle.tree_rules.specs.Termination.{acksTotal}
 use Rattle.tree_text.specs.Text.{childrenText, nodeText}
 use Rattle.tree_text.specs.Write.{writeVerdict, writtenOf}
 use Rattle.starred_runs.specs.Case.{allPass, passes}
-use Rattle.starred_runs.specs.Limits.{limits}
-use Rattle.starred_runs.specs.Refusals.{order, outside}
+use Rattle.starred_runs.specs.TableLimits.{limits}
+use Rattle.starred_runs.specs.TableRefusals.{order, outside}
 use Rattle.starred_runs.specs.Table.{refusals}
 use Rattle.decimal.specs.Number as number
 use Rattle.first_line.specs.Read as first

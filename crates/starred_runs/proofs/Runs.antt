@@ -14,7 +14,7 @@ use Rattle.tree_rules.specs.Soundness.{balanceTest, chainTest, engagerTest, lim
 use Rattle.tree_rules.specs.State.{children, climb, messagesFrom}
 use Rattle.tree_rules.specs.Termination.{acksTotal, engagedOthers}
 use Rattle.starred_runs.specs.Case.{allPass, passes}
-use Rattle.starred_runs.specs.Runs.{runs}
+use Rattle.starred_runs.specs.TableRuns.{runs}
 use Rattle.ring_rules.specs.Answers as ring
 use Rattle.ring_rules.specs.Rules as ringRules
 use Rattle.ring_rules.specs.Soundness as ringSound

@@ -21,8 +21,8 @@ use Rattle.tree_rules.specs.Answers as tree
 use Rattle.tree_rules.specs.Rules as treeRules
 use Rattle.tree_rules.specs.Soundness as treeSound
 use Rattle.tree_rules.specs.Start as treeStart
-use Rattle.starred_runs.specs.RingSoundness as rowsOfRing
-use Rattle.starred_runs.specs.TreeSoundness as rowsOfTree
+use Rattle.starred_runs.specs.TableRings as rowsOfRing
+use Rattle.starred_runs.specs.TableTrees as rowsOfTree
 
 pub rings-pass : allPass rings ≡ true
 unfolding rings rowsOfRing.range rowsOfRing.flow rowsOfRing.sums rowsOfRing.safra rowsOfRing.unused rowsOfRing.announced passes allPass isBlack blackened _⊖_ isPositive isZero isSame sumTo ringRules.conclusive ringSound.shapeTest ringSound.rangeTest flowTest sumTest passiveAbove whiteTo gatheredTest safraTest unusedTest ringSound.closedTest ringSound.soundTest mayProbe mayPass ring.verdictOf mayMove driveFrom driveOf

@@ -4,7 +4,7 @@ use mathlib.Core.List.{List, [], _++_, _∷_}
 use mathlib.Core.Path.{_≡_}
 use Rattle.laws.proofs.Tests.{both, both-true}
 use Rattle.starred_runs.specs.Case.{Case, allPass, passes}
-use Rattle.starred_runs.specs.Runs.{runs}
+use Rattle.starred_runs.specs.TableRuns.{runs}
 use Rattle.starred_runs.specs.Table.{AllPass, refusals, rings, table, trees, written}
 use Rattle.starred_runs.proofs.Refusals.{refusals-pass}
 use Rattle.starred_runs.proofs.Runs.{runs-pass}

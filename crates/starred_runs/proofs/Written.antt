@@ -12,9 +12,9 @@ use Rattle.signed.specs.Integers.{_⊖_, isPositive, isSame, isZero}
 use Rattle.tree_text.specs.Read.{andThen, bodyOf, closed, entered, listOf, nodeBy, nodeOf, readOf}
 use Rattle.tree_text.specs.Text.{childrenText, nodeText}
 use Rattle.starred_runs.specs.Case.{allPass, passes}
-use Rattle.starred_runs.specs.Numbers.{numbers}
+use Rattle.starred_runs.specs.TableNumbers.{numbers}
 use Rattle.starred_runs.specs.Table.{written}
-use Rattle.starred_runs.specs.Texts.{texts}
+use Rattle.starred_runs.specs.TableTexts.{texts}
 use Rattle.decimal.specs.Number as number
 use Rattle.ring_rules.specs.Answers as ring
 use Rattle.ring_rules.specs.Rules as ringRules

@@ -3,13 +3,13 @@ use mathlib.Core.Bool.{true}
 use mathlib.Core.List.{List, _++_}
 use mathlib.Core.Path.{_≡_}
 use Rattle.starred_runs.specs.Case.{Case, allPass}
-use Rattle.starred_runs.specs.Limits.{limits}
-use Rattle.starred_runs.specs.Numbers.{numbers}
-use Rattle.starred_runs.specs.Refusals.{order, outside}
-use Rattle.starred_runs.specs.Runs.{runs}
-use Rattle.starred_runs.specs.Texts.{texts}
-use Rattle.starred_runs.specs.RingSoundness as ring
-use Rattle.starred_runs.specs.TreeSoundness as tree
+use Rattle.starred_runs.specs.TableLimits.{limits}
+use Rattle.starred_runs.specs.TableNumbers.{numbers}
+use Rattle.starred_runs.specs.TableRefusals.{order, outside}
+use Rattle.starred_runs.specs.TableRuns.{runs}
+use Rattle.starred_runs.specs.TableTexts.{texts}
+use Rattle.starred_runs.specs.TableRings as ring
+use Rattle.starred_runs.specs.TableTrees as tree
 
 -- "A ring state is sound if"
 unfoldable pub rings : List Case

@@ -2,6 +2,7 @@
 use Prim.Native.Nat.{ℕ}
 use lib.ListN.{replicate}
 use mathlib.Core.List.{List, [], _∷_}
+use Rattle.runs.specs.Runs.{Request}
 use Rattle.starred_runs.specs.Case.{Case, _is_, conclusive, drives, holder-after, quiet-then, quiet-with, ring-run, ring-start, spent, tree-run, tree-start}
 use Rattle.ring_rules.specs.Start as ringStart
 use Rattle.ring_rules.specs.State as ringState
@@ -18,6 +19,10 @@ ringOf n flags = ringStart.startOf n flags .state
 abbrev pub treeOf : ℕ → ℕ → treeState.State
 treeOf n root = treeStart.startOf n root .state
 
+-- the requests of the second run
+abbrev pub second : List Request
+second = ring.probe ∷ ring.pass 2 ∷ ring.send 1 2 ∷ ring.take 2 ∷ ring.idle 1 ∷ ring.idle 2 ∷ []
+
 unfoldable pub runs : List Case
 runs =
     -- "The listing above: four moves, the bound for N = 2."
@@ -33,12 +38,8 @@ runs =
     ∷ [])
     ∷ quiet-then (ringOf 2 (0 ∷ 2 ∷ [])) [] 4
     -- "(ring 3 (active 1) (black)), probe, pass 2, send 1 2, take 2, idle 1, idle 2: quiet at holder 1, then 7 moves."
-    ∷ holder-after (ringOf 3 (0 ∷ 1 ∷ 0 ∷ []))
-    (ring.probe ∷ ring.pass 2 ∷ ring.send 1 2 ∷ ring.take 2 ∷ ring.idle 1 ∷ ring.idle 2 ∷ [])
-    1
-    ∷ quiet-then (ringOf 3 (0 ∷ 1 ∷ 0 ∷ []))
-    (ring.probe ∷ ring.pass 2 ∷ ring.send 1 2 ∷ ring.take 2 ∷ ring.idle 1 ∷ ring.idle 2 ∷ [])
-    7
+    ∷ holder-after (ringOf 3 (0 ∷ 1 ∷ 0 ∷ [])) second 1
+    ∷ quiet-then (ringOf 3 (0 ∷ 1 ∷ 0 ∷ [])) second 7
     -- "(ring 3 (active 0 2) (black)), probe, send 2 0, take 0, idle 0, idle 2: then 5 moves."
     ∷ quiet-then (ringOf 3 (1 ∷ 0 ∷ 1 ∷ [])) (ring.probe ∷ ring.send 2 0 ∷ ring.take 0 ∷ ring.idle 0 ∷ ring.idle 2 ∷ []) 5
     -- "N = 1, idle: one probe, then announce."
