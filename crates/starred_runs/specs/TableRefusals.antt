@@ -5,6 +5,7 @@ use lib.ListN.{replicate}
 use mathlib.Core.List.{List, [], _∷_}
 use Rattle.decimal.specs.Bytes.{bytes}
 use Rattle.runs.specs.Runs.{Request}
+use Rattle.starred_runs.specs.TableRuns.{ringOf, treeOf}
 use Rattle.starred_runs.specs.Case.{Case, _is_, drives, prints, ring-run, ring-start, tree-run, tree-start, writes}
 use Rattle.ring_rules.specs.State as ringState
 use Rattle.ring_runs.specs.Requests as ring
@@ -51,6 +52,11 @@ order =
     ∷ tree-start 0 0 1
     ∷ tree-start 17 17 1
     ∷ tree-start 3 3 6
+    -- "A refused start yields no state": what stands in its place is not sound
+    ∷ ring-run (ringOf 97 (replicate 97 0)) (ring.probe is 3 ∷ [])
+    ∷ ring-run (ringOf 1 (4 ∷ [])) (ring.probe is 3 ∷ [])
+    ∷ tree-run (treeOf 17 0) (tree.announce is 3 ∷ [])
+    ∷ tree-run (treeOf 3 3) (tree.announce is 3 ∷ [])
     -- "any state handed in, 3, not sound" over "step, driver, 4, run closed" and what is below it
     ∷ ring-run ringUnsound (ring.probe is 3 ∷ request 7 0 0 is 3 ∷ ring.send 3 3 is 3 ∷ [])
     ∷ tree-run treeUnsound (tree.announce is 3 ∷ request 7 0 0 is 3 ∷ tree.send 3 3 is 3 ∷ [])
@@ -78,6 +84,7 @@ order =
     -- 3 over "tree text, 12, buffer shorter than the text, checked after 3"; a closed run is written
     ∷ writes treeUnsound 0 3
     ∷ writes treeSpent 0 12
+    ∷ writes treeClosed 2 12
     ∷ writes treeClosed 3 0
     -- "log line, 10, not one of the forms below" over 1 and 6; 1 over 6
     ∷ prints (bytes "(ring 97 (active 97)(black))\n") "(no 1 10)\n"
