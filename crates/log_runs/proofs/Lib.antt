@@ -2,5 +2,5 @@ pub mod First
 pub mod Runs
 pub mod Detectors
 pub mod Theorems
-pub mod Whole
+pub mod WholeLog
 pub mod Listing

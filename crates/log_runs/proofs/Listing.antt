@@ -26,7 +26,7 @@ use Rattle.log_runs.proofs.Theorems.{log-runs}
 use Rattle.log_runs.specs.First.{flagsTo}
 use Rattle.log_runs.specs.Listing.{Listing, first, firstLine, listing, otherLines}
 use Rattle.log_runs.specs.Says.{Ask, Each, RingAsks, line, no-line, request, says}
-use Rattle.log_runs.specs.Whole.{CountsDown, NoneBefore, OkAt, oks, verdictAt}
+use Rattle.log_runs.specs.WholeLog.{CountsDown, NoneBefore, OkAt, oks, verdictAt}
 use Rattle.forms.specs.declared.RingStep.the-variants as step
 
 asked : List Ask

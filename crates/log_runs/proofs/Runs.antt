@@ -23,7 +23,7 @@ use Rattle.runs.proofs.Runs.{accepted-append, run-append}
 use Rattle.runs.specs.Runs.{Accepts, Machine, Request, acceptedOf, next, runOf}
 use Rattle.log_runs.proofs.First.{asks-once}
 use Rattle.log_runs.specs.Says.{Ask, Asks, Each, cut, line, no-line, no-step, other, printed, request, requestsIn, says, stageAfter}
-use Rattle.log_runs.specs.Whole.{AnnouncedAt, CountsDown, NoneBefore, OkAt, joined, judged, oks, said, verdictAt}
+use Rattle.log_runs.specs.WholeLog.{AnnouncedAt, CountsDown, NoneBefore, OkAt, joined, judged, oks, said, verdictAt}
 use Rattle.log_rules.specs.Theorems as lines
 
 -- ---- what is printed

@@ -1,5 +1,5 @@
 pub mod Says
 pub mod First
 pub mod Theorems
-pub mod Whole
+pub mod WholeLog
 pub mod Listing

@@ -11,7 +11,7 @@ use Rattle.ring_rules.specs.Start.{startOf}
 use Rattle.ring_rules.specs.State.{State}
 use Rattle.ring_runs.specs.Counts.{QuietBy, ring}
 use Rattle.log_runs.specs.First.{FirstAsks, begun, firstVerdict, ring-start}
-use Rattle.log_runs.specs.Whole.{NoneBefore, RingLog}
+use Rattle.log_runs.specs.WholeLog.{NoneBefore, RingLog}
 
 abbrev pub firstLine : List ℕ
 firstLine = bytes "(ring 2 (active) (black 1))\n"

@@ -1,5 +1,5 @@
 -- Demand 3 of what is printed for a log: its run is the run of the requests that its lines say, so that `WholeRuns` (crates ring_runs and
--- tree_runs) speaks of it. `WholeLog` (Whole.antt) puts it together for every list of bytes. The proofs are in proofs/Theorems.antt.
+-- tree_runs) speaks of it. `WholeLog` (WholeLog.antt) puts it together for every list of bytes. The proofs are in proofs/Theorems.antt.
 use Prim.Native.Nat.{_*_, _+_, _-_, _≤_, ℕ}
 use lib.ListN.{length, take}
 use mathlib.Core.List.{List, _++_, _∷_}

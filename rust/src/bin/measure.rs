@@ -10,15 +10,23 @@ use std::path::Path;
 use std::process::ExitCode;
 
 /// Files of `specs/` that hold statements; the others hold definitions.
-const STATEMENTS: [&str; 9] = [
+const STATEMENTS: [&str; 17] = [
     "Agreement",
     "Cases",
     "Exact",
     "Examples",
+    "Listing",
     "Ring",
-    "StarredRuns",
+    "TableLimits",
+    "TableNumbers",
+    "TableRefusals",
+    "TableRings",
+    "TableRuns",
+    "TableTexts",
+    "TableTrees",
     "Theorems",
     "Tree",
+    "WholeLog",
     "WholeRun",
 ];
 

@@ -1,4 +1,4 @@
--- The statement of specs/Whole.antt, proved. Assumes nothing.
+-- The statement of specs/WholeLog.antt, proved. Assumes nothing.
 use Prim.Native.Nat.{_*_, _-_, _≤_, ℕ}
 use mathlib.Core.Bool.{true}
 use mathlib.Core.List.{List, [], _++_, _∷_, append-nil}
@@ -29,7 +29,7 @@ use Rattle.log_runs.proofs.Runs.{Left, announce-ok, counts-down, each-a
 use Rattle.log_runs.proofs.Theorems.{log-runs}
 use Rattle.log_runs.specs.First.{Asked, FirstAsks, begun, firstVerdict, flagsTo, no-start, ring-start, tree-start}
 use Rattle.log_runs.specs.Says.{Ask, Each, RingAsks, TreeAsks, movesIn, printed, requestsIn, stageAfter}
-use Rattle.log_runs.specs.Whole.{LogBy, RingLog, TreeLog, WholeLog, answers, said}
+use Rattle.log_runs.specs.WholeLog.{LogBy, RingLog, TreeLog, WholeLog, answers, said}
 use Rattle.log_rules.specs.Theorems as lines
 use Rattle.log_rules.specs.Answers as rules
 use Rattle.ring_rules.specs.Soundness as ringSound

@@ -1,5 +1,5 @@
 -- THE WHOLE LOG, for every list of bytes: what is printed for each of its lines and at its end, and demand 3 of that very log.
--- The proof is in proofs/Whole.antt. Lines are numbered as in their answers: the lines after the first are lines 2 + i.
+-- The proof is in proofs/WholeLog.antt. Lines are numbered as in their answers: the lines after the first are lines 2 + i.
 use Prim.Native.Nat.{_*_, _+_, _-_, _<_, _≤_, suc, zero, ℕ}
 use lib.ListN.{getD, length, take}
 use mathlib.Core.Bool.{cond}
