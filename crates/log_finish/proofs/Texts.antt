@@ -6,7 +6,7 @@ use mathlib.Core.List.{List, [], _++_, append-nil}
 use mathlib.Core.Logic.{_⊎_, inl, inr}
 use mathlib.Core.Path.{_∙_, _≡_, ap, subst⁻¹}
 use native.Mathlib.Omega.{arith}
-use Rattle.log_held.proofs.Held.{held-some}
+use Rattle.log_held.proofs.Held.{held-least}
 use Rattle.log_held.specs.Feed.{stageOf}
 use Rattle.log_held.specs.declared.Log.{Log}
 use Rattle.log_rules.proofs.Cuts.{rest-cut, rest-done, rest-full}
@@ -40,7 +40,7 @@ module _ (line : List ℕ) (k len : ℕ) (places : length line ≡ 700) (part : 
           let e : len ≡ 0 = omega arith in
           subst⁻¹ (λ (n : ℕ). P (heldOf line n) (cutText k n)) e (unheld e)
       go (inl s) (inr h) = subst⁻¹ (P (heldOf line len)) (full-cut k len h (omega arith)) (filled h (omega arith))
-      go (inl s) (inl h) = subst⁻¹ (P (heldOf line len)) (some-cut k len h (omega arith)) (held h (held-some line len places s))
+      go (inl s) (inl h) = subst⁻¹ (P (heldOf line len)) (some-cut k len h (omega arith)) (held h (omega (arith, held-least line len places)))
 
   -- a run: its last line, and its end line
   pub run-end : (st : rules.Stage) → notTold st (k + 1) ≡ record { stage = st; text = rules.answerText (k + 1) (Refused NotAForm) }

@@ -113,10 +113,10 @@ sound-later (rules.onRing r m) k h x = (x .0, omega (arith, x .1))
 sound-later (rules.onTree t) k h x = x
 sound-later rules.over k h x = tt
 
--- what is held is not empty
-pub held-some : (line : List ℕ) (len : ℕ) → length line ≡ 700 → 0 < len → 0 < length (heldOf line len)
-held-some line len n h = go (cases.split len 701)
+-- as many bytes are held as are counted
+pub held-least : (line : List ℕ) (len : ℕ) → length line ≡ 700 → min len 701 ≤ length (heldOf line len)
+held-least line len n = go (cases.split len 701)
   where
-    go : (len < 701) ⊎ (701 ≤ len) → 0 < length (heldOf line len)
+    go : (len < 701) ⊎ (701 ≤ len) → min len 701 ≤ length (heldOf line len)
     go (inl lt) = omega (arith, held-length line len n (omega arith))
     go (inr le) = omega (arith, held-long-length line len (omega arith))

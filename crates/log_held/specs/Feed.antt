@@ -1,6 +1,8 @@
 -- What a piece of a log comes to.
 use Prim.Native.Nat.{_*_, _+_, _-_, _<_, _≤_, ℕ}
+use lib.Dec.{leb}
 use lib.ListN.{drop, length, take}
+use mathlib.Core.Bool.{Bool, _&&_, _||_, true}
 use mathlib.Core.List.{List, [], _++_}
 use mathlib.Core.Path.{_≡_}
 use Rattle.log_first.specs.Open.{Begun, SoundStage, stageBy}
@@ -32,6 +34,22 @@ pub record FedFrom (s : rules.Stage) (k : ℕ) (held text : List ℕ) (f : Fed) 
   pub wrote : Wrote out at written (f .count) out′
   pub room : f .count ≤ length out
   pub good : Good (f .log) line′
+
+-- No line is answered after the next: k are, and all are, or all but one, and `len` bytes without a byte 10 are held of that one, which
+-- is too long then even if byte 10 follows.
+abbrev pub lastDecided : ℕ → ℕ → Bool
+lastDecided k len = leb lineLimit k || (leb lineBytes len && leb (lineLimit - 1) k)
+
+-- Is what is still to be written settled, whatever follows (`Settled`, Theorems.antt)? The first line was refused, or is too long, or the
+-- last line is answered, or is too long.
+abbrev pub decidedBy : rules.Stage → ℕ → ℕ → Bool
+decidedBy rules.fresh k len = leb lineLimit k || leb lineBytes len
+decidedBy (rules.onRing r m) k len = lastDecided k len
+decidedBy (rules.onTree t) k len = lastDecided k len
+decidedBy rules.over k len = true
+
+abbrev pub decided : Log → Bool
+decided l = decidedBy (stageOf l) (l .lines) (l .len)
 
 -- ---- between the functions
 

@@ -16,7 +16,7 @@ ghost use Rattle.ring.specs.View as ringView;
 ghost use Rattle.tree.specs.View as treeView;
 ghost use Rattle.log_rules.specs.Answers.{fresh, onRing, onTree};
 ghost use Rattle.log_first.specs.Open.{SoundStage, stageBy};
-ghost use Rattle.log_held.specs.Feed.{stageOf, HeldReady, HeldTold};
+ghost use Rattle.log_held.specs.Feed.{stageOf, decided, HeldReady, HeldTold};
 
 // A log as far as it is read: what it has come to, the accepted token moves, the lines answered, and how many bytes are held of the next
 // line in a buffer of 700 (701: it is too long).
@@ -161,5 +161,21 @@ pub fn answer_held(log: Log, len: usize, line: &[u8], out: &mut [u8]) -> Fed
                 count: 0,
             }
         }
+    }
+}
+
+// Is what is still to be written settled, whatever follows?
+pub fn is_decided(log: Log) -> bool
+    ensures { λ r. ⌜ r ≡ decided log ⌝ }
+{
+    let stage = log.stage;
+    let full = 1000000 <= log.lines;
+    let long = 700 <= log.len;
+    let last = full | (long & (999999 <= log.lines));
+    match stage {
+        Stage::Fresh => full | long,
+        Stage::Ring => last,
+        Stage::Tree => last,
+        Stage::Over => true,
     }
 }

@@ -1,16 +1,14 @@
 -- One turn of the program: a read, the lines of what was read, and a write.
 use Prim.Native.Nat.{ℕ}
 use Rattle.io.specs.Counts.{clamped}
-use lib.Dec.{ltb}
 use lib.IntN.{pos, ℤ}
 use lib.ListN.{length, take}
 use lib.Signed.{ltZ}
 use mathlib.Core.Bool.{Bool, _&&_, _||_, not}
 use mathlib.Core.List.{List}
 use mathlib.Core.Path.{_≡_}
-use Rattle.log_held.specs.Feed.{FedFrom, stageOf}
+use Rattle.log_held.specs.Feed.{FedFrom, decided, stageOf}
 use Rattle.log_held.specs.declared.Log.{Log}
-use Rattle.log_rules.specs.Lines.{lineLimit}
 use Rattle.log_rules.specs.Pieces.{heldOf}
 use Rattle.watch.specs.declared.Step.{Step}
 
@@ -20,10 +18,10 @@ Answers l n piece s line line′ out out′ =
     FedFrom (stageOf l) (l .lines) (heldOf line (l .len)) (take n piece) (record { log = s .log; count = s .count }) line′ 0 out out′
 
 -- What is made of a piece where read has answered `got`: that many of its bytes are answered, none where it is 0 or less. The program
--- goes on if there were any and the last line of a log is not reached; a number below 0 is a failure.
+-- goes on if there were any and the log is not decided; a number below 0 is a failure.
 pub record Answered (l : Log) (piece : List ℕ) (got : ℤ) (s : Step) (line line′ out out′ : List ℕ) : Type 0 where
   pub answers : Answers l (clamped got (length piece)) piece s line line′ out out′
-  pub more : s .more ≡ (ltZ (pos 0) got && ltb (s .log .lines) lineLimit)
+  pub more : s .more ≡ (ltZ (pos 0) got && not (decided (s .log)))
   pub failed : s .failed ≡ ltZ got (pos 0)
 
 -- a turn: the bytes of some answer of read are answered, and it goes on, or has failed, as `Answered` says, unless the write failed
@@ -31,5 +29,5 @@ pub record Turned (l : Log) (piece : List ℕ) (s : Step) (line line′ out out�
   pub got : ℤ
   pub answers : Answers l (clamped got (length piece)) piece s line line′ out out′
   pub written : Bool
-  pub more : s .more ≡ ((ltZ (pos 0) got && ltb (s .log .lines) lineLimit) && written)
+  pub more : s .more ≡ ((ltZ (pos 0) got && not (decided (s .log))) && written)
   pub failed : s .failed ≡ (ltZ got (pos 0) || not written)

@@ -22,11 +22,11 @@ fn answer(log: Log, piece: &[u8], got: isize, line: &mut [u8], out: &mut [u8]) -
     let n = io::count(got, piece);
     let f = log::feed(log, &piece[..n], line, out);
     let next = f.log;
-    let more = (0 < got) & (next.lines < 1000000);
+    let decided = log_held::is_decided(next);
     Step {
         log: next,
         count: f.count,
-        more,
+        more: (0 < got) & !decided,
         failed: got < 0,
     }
 }
@@ -50,6 +50,7 @@ fn one_piece(log: Log, piece: &mut [u8], line: &mut [u8], out: &mut [u8]) -> Ste
 }
 
 // All pieces. A proved loop has to end, and nothing says that the input does: the turns are counted down from a number that no run uses up.
+// If they were used up, that would be a failure: more of the log would be left to read.
 fn pump(first: Log, piece: &mut [u8], line: &mut [u8], out: &mut [u8]) -> Step
     requires { ⌜ Good first (now line) × ((length (now piece) + 700) * 16 ≤ length (now out)) ⌝ }
     ensures { λ s. ⌜ Good (s .log) (now (line .exit)) ⌝ }
@@ -68,7 +69,7 @@ fn pump(first: Log, piece: &mut [u8], line: &mut [u8], out: &mut [u8]) -> Step
         log,
         count: 0,
         more: false,
-        failed: false,
+        failed: true,
     }
 }
 

@@ -18,6 +18,9 @@ slice-aggregate-feed c = search needs
 feed-requires : tie.Need-feed-requires
 feed-requires c κs = search needs
 
+is-decided-requires : tie.Need-is-decided-requires
+is-decided-requires c κs = search needs
+
 same-length : tie.Need-same-length
 same-length c = search needs
 
@@ -32,7 +35,7 @@ returns c =
     let most = length (start .args .piece .now) in
     let f : SFits w64 (start .args .got) = sfits-of (start .fits .got .sfits) in
     let n : at-count .count .result ≡ clamped (start .args .got) most = at-count .count .ensures .1 ∙ ap (λ (z : ℤ). clamped z most) (toZ-ofZ f) in
-    record { answers = rw (← n) (at-feed .feed .ensures); more = rw (toZ-ofZ f); failed = rw (toZ-ofZ f) }
+    record { answers = rw (← n) (at-feed .feed .ensures); more = rw (toZ-ofZ f, c .is-decided .ensures); failed = rw (toZ-ofZ f) }
 
 pub answer-spec : {M : Type 1} → statement M
-answer-spec = tie.close (tie.spec count-requires slice-aggregate-feed feed-requires same-length same-length-2 returns)
+answer-spec = tie.close (tie.spec count-requires slice-aggregate-feed feed-requires is-decided-requires same-length same-length-2 returns)

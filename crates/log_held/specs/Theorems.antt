@@ -1,0 +1,19 @@
+-- Where a log is decided, nothing more has to be read of it.
+use Prim.Native.Nat.{ℕ}
+use mathlib.Core.Bool.{true}
+use mathlib.Core.List.{List, []}
+use mathlib.Core.Path.{_≡_}
+use Rattle.log_rules.specs.Output.{restOf}
+use Rattle.log_rules.specs.Pieces.{heldOf}
+use Rattle.log_held.specs.Feed.{Good, decided, stageOf}
+use Rattle.log_held.specs.declared.Log.{Log}
+use Rattle.log_rules.specs.Answers as rules
+
+pub record Settled : Type 0 where
+  -- whatever follows, what is still to be written is what would be if the log ended here
+  pub same :
+      (l : Log) (line rest : List ℕ) → Good l line → decided l ≡ true
+      → restOf (stageOf l) (l .lines) (heldOf line (l .len)) rest ≡ restOf (stageOf l) (l .lines) (heldOf line (l .len)) []
+  -- "After a bad or missing first line the program prints only that refusal": nothing more
+  pub nothing :
+      (l : Log) (line rest : List ℕ) → stageOf l ≡ rules.over → restOf (stageOf l) (l .lines) (heldOf line (l .len)) rest ≡ []
