@@ -1,27 +1,34 @@
 -- The statement of specs/Theorems.antt, proved. Assumes nothing.
-use Prim.Native.Nat.{_+_, _-_, _<_, _≤_, ℕ}
-use borrow.Author.Tests.{leb-true}
-use lib.Dec.{leb}
-use lib.ListN.{drop, length, length-append}
-use mathlib.Core.Bool.{Bool, _&&_, false, true}
-use mathlib.Core.List.{List, [], _++_, append-assoc, append-nil}
-use mathlib.Core.Logic.{_⊎_, inl, inr}
-use mathlib.Core.Path.{_∙_, _≡_, ap, refl, subst⁻¹, sym}
+use Prim.Native.Nat.{_+_, _<_, _≤_, ℕ}
+use borrow.Author.Tests.{leb-false, leb-true}
+use lib.ListN.{drop, getD, length, length-append}
+use mathlib.Core.Bool.{Bool, _&&_, _||_, false, true}
+use mathlib.Core.List.{List, [], _++_, _∷_, append-assoc, append-nil}
+use mathlib.Core.Logic.{_⊎_, inl, inr, ⊎-elim}
+use mathlib.Core.Path.{_∙_, _≡_, ap, refl, subst, subst⁻¹, sym}
 use native.Mathlib.Omega.{arith}
 use Rattle.forms.proofs.Lines.{line-rest}
-use Rattle.laws.proofs.Tests.{both, one-of}
-use Rattle.log_rules.proofs.Cuts.{rest-cut, rest-full, rest-held, rest-more, rest-over}
-use Rattle.log_rules.proofs.Ends.{ended-append, ended-long, line-ended, no-line, unended-append}
+use Rattle.decimal.specs.Text.{decimal, digits}
+use Rattle.first_line.specs.Start.{bare}
+use Rattle.forms.specs.Form.{Says, bareRing, formText}
+use Rattle.log_rules.proofs.Theorems.{lines-say}
+use Rattle.refusal.specs.declared.Refusal.the-variants.{NotAForm}
+use Rattle.refusal.specs.declared.Verdict.the-variants.{Refused}
+use Rattle.laws.proofs.Tests.{both, false-true, one-of}
+use Rattle.log_rules.proofs.Cuts.{rest-cut, rest-done, rest-full, rest-held, rest-more, rest-over}
+use Rattle.log_rules.proofs.Ends.{ended-append, ended-long, form-ended, line-ended, no-line, unended-append}
 use Rattle.log_rules.specs.Lines.{lineLimit}
 use Rattle.log_rules.specs.Output.{restOf}
-use Rattle.log_rules.specs.Pieces.{PartLine, hasLine, heldOf, lineBytes, notTold}
-use Rattle.log_held.proofs.Held.{held-least, told-long}
-use Rattle.log_held.specs.Feed.{Good, decided, decidedBy, lastDecided, stageOf}
+use Rattle.log_rules.specs.Pieces.{PartLine, another, empty, hasLine, heldOf, lineBytes, notTold}
+use Rattle.log_held.proofs.Held.{held-least, told-line, told-long}
+use Rattle.log_held.specs.Feed.{allAnswered, decidedBy, lastIsNext, stageOf, tooLong}
 use Rattle.log_held.specs.Theorems.{Settled}
-use Rattle.log_held.specs.declared.Log.{Log}
 use Rattle.log_rules.specs.Answers as rules
 use Rattle.forms.specs.Form as forms
 use Rattle.decimal.proofs.Cases as cases
+
+by-test : {P : Type 0} (a b : Bool) → (a || b) ≡ true → (a ≡ true → P) → (b ≡ true → P) → P
+by-test a b e f g = ⊎-elim f g (one-of a b e)
 
 -- after the next line nothing but the end line is written, if it is refused
 abbrev Closes : rules.Stage → ℕ → Type 0
@@ -62,21 +69,17 @@ module _ (line : List ℕ) (k len : ℕ) (places : length line ≡ 700) (part : 
       go (inl h) = too-long s k part (omega (arith, held-least line len places)) h closes rest
       go (inr h) = full s h
 
-  last : (s : rules.Stage) → lastDecided k len ≡ true → Same s
-  last s e = go (one-of _ _ e)
-    where
-      go : (leb lineLimit k ≡ true) ⊎ ((leb lineBytes len && leb (lineLimit - 1) k) ≡ true) → Same s
-      go (inl h) = full s (leb-true lineLimit k h)
-      go (inr h) =
-          let h2 = both _ _ h in
-          long s (leb-true lineBytes len (h2 .0)) (λ after. rest-full _ (k + 1) (omega (arith, leb-true (lineLimit - 1) k (h2 .1))) [] after)
+  last : (s : rules.Stage) → (allAnswered k || (tooLong len && lastIsNext k)) ≡ true → Same s
+  last s e =
+      by-test (allAnswered k) (tooLong len && lastIsNext k) e (λ h. full s (omega (arith, leb-true)))
+      (λ h.
+      let long-last = both (tooLong len) (lastIsNext k) h in
+      long s (omega (arith, leb-true)) (λ after. rest-full _ (k + 1) (omega (arith, leb-true)) [] after))
 
-  first : decidedBy rules.fresh k len ≡ true → Same rules.fresh
-  first e = go (one-of _ _ e)
-    where
-      go : (leb lineLimit k ≡ true) ⊎ (leb lineBytes len ≡ true) → Same rules.fresh
-      go (inl h) = full rules.fresh (leb-true lineLimit k h)
-      go (inr h) = long rules.fresh (leb-true lineBytes len h) (λ after. rest-over (k + 1) [] after)
+  first : (allAnswered k || tooLong len) ≡ true → Same rules.fresh
+  first e =
+      by-test (allAnswered k) (tooLong len) e (λ h. full rules.fresh (omega (arith, leb-true)))
+      (λ h. long rules.fresh (omega (arith, leb-true)) (λ after. rest-over (k + 1) [] after))
 
   same-rest : (s : rules.Stage) → decidedBy s k len ≡ true → Same s
   same-rest rules.fresh e = first e
@@ -84,9 +87,45 @@ module _ (line : List ℕ) (k len : ℕ) (places : length line ≡ 700) (part : 
   same-rest (rules.onTree t) e = last (rules.onTree t) e
   same-rest rules.over e = rest-over k (heldOf line len) rest ∙ sym (rest-over k (heldOf line len) [])
 
+-- ---- a log that is not decided
+
+neither : (a b : Bool) → (a || b) ≡ false → a ≡ false
+neither true b e = e
+neither false b e = refl
+
+-- a first line that is accepted is answered, and not refused
+first-open : (k : ℕ) → k < lineLimit → restOf rules.fresh k [] (formText (bareRing 1)) ≡ restOf rules.fresh k [] [] → ⊥
+unfolding decimal digits
+first-open k h e =
+    let says : Says (formText (bareRing 1)) (bareRing 1) = (refl, (omega arith, omega arith)) in
+    let told = told-line rules.fresh k h (form-ended (bareRing 1)) (lines-say .first (k + 1) _ (bare 1) says) [] in
+    let same = sym told ∙ (ap (restOf rules.fresh k []) (append-nil (formText (bareRing 1))) ∙ (e ∙ rest-done rules.fresh k)) in
+    let z : _≡_ {A = ℕ} 111 110 = ap (λ (x : List ℕ). getD x 1 0) same in
+    omega arith
+
+-- a byte more is one more line, which is answered
+line-open : (s : rules.Stage) (k : ℕ) → k < lineLimit → notTold s (k + 1) ≡ record { stage = s; text = rules.answerText (k + 1) (Refused NotAForm) }
+    → restOf s k [] (0 ∷ []) ≡ restOf s k [] [] → ⊥
+line-open s k h stays e =
+    let byte : PartLine (0 ∷ []) = another (λ (z : _≡_ {A = ℕ} 0 10). omega arith) empty in
+    let told = rest-held s k byte [] ∙ (e ∙ rest-done s k) in
+    let cut = sym (rest-cut s k byte (omega arith) h) ∙ told in
+    let z = ap length (sym (ap (λ (x : rules.Told). x .text ++ rules.endText (x .stage)) stays) ∙ cut) in
+    omega (arith, z, length-append (rules.answerText (k + 1) (Refused NotAForm)) (rules.endText s))
+
+open-at : (s : rules.Stage) (k : ℕ) → decidedBy s k 0 ≡ false → (rest : List ℕ) × (restOf s k [] rest ≡ restOf s k [] [] → ⊥)
+open-at rules.fresh k e = (formText (bareRing 1), first-open k (leb-false lineLimit k (neither _ _ e)))
+open-at (rules.onRing r m) k e = (0 ∷ [], line-open (rules.onRing r m) k (leb-false lineLimit k (neither _ _ e)) refl)
+open-at (rules.onTree t) k e = (0 ∷ [], line-open (rules.onTree t) k (leb-false lineLimit k (neither _ _ e)) refl)
+open-at rules.over k e = absurd (false-true (sym e))
+
 pub settled : Settled
 settled = record {
   same = λ l line rest g e. same-rest line (l .lines) (l .len) (g .places) (g .part) rest (stageOf l) e;
+  not-yet = λ l line unheld e.
+      subst⁻¹ (λ (n : ℕ). (rest : List ℕ) × (restOf (stageOf l) (l .lines) (heldOf line n) rest ≡ restOf (stageOf l) (l .lines) (heldOf line n) [] → ⊥))
+      unheld
+      (open-at (stageOf l) (l .lines) (subst (λ (n : ℕ). decidedBy (stageOf l) (l .lines) n ≡ false) unheld e));
   nothing = λ l line rest e.
       ap (λ (s : rules.Stage). restOf s (l .lines) (heldOf line (l .len)) rest) e ∙ rest-over (l .lines) (heldOf line (l .len)) rest;
 }

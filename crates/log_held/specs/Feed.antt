@@ -35,17 +35,23 @@ pub record FedFrom (s : rules.Stage) (k : ℕ) (held text : List ℕ) (f : Fed) 
   pub room : f .count ≤ length out
   pub good : Good (f .log) line′
 
--- No line is answered after the next: k are, and all are, or all but one, and `len` bytes without a byte 10 are held of that one, which
--- is too long then even if byte 10 follows.
-abbrev pub lastDecided : ℕ → ℕ → Bool
-lastDecided k len = leb lineLimit k || (leb lineBytes len && leb (lineLimit - 1) k)
+-- the last line is answered; or it is the next
+abbrev pub allAnswered : ℕ → Bool
+allAnswered k = leb lineLimit k
 
--- Is what is still to be written settled, whatever follows (`Settled`, Theorems.antt)? The first line was refused, or is too long, or the
+abbrev pub lastIsNext : ℕ → Bool
+lastIsNext k = leb (lineLimit - 1) k
+
+-- a line of which `len` bytes are held, no byte 10 among them: it is too long even if byte 10 follows
+abbrev pub tooLong : ℕ → Bool
+tooLong len = leb lineBytes len
+
+-- Is what is still to be written settled, whatever follows (`Settled`, Theorems.antt)? The first line was refused, or is too long; or the
 -- last line is answered, or is too long.
 abbrev pub decidedBy : rules.Stage → ℕ → ℕ → Bool
-decidedBy rules.fresh k len = leb lineLimit k || leb lineBytes len
-decidedBy (rules.onRing r m) k len = lastDecided k len
-decidedBy (rules.onTree t) k len = lastDecided k len
+decidedBy rules.fresh k len = allAnswered k || tooLong len
+decidedBy (rules.onRing r m) k len = allAnswered k || (tooLong len && lastIsNext k)
+decidedBy (rules.onTree t) k len = allAnswered k || (tooLong len && lastIsNext k)
 decidedBy rules.over k len = true
 
 abbrev pub decided : Log → Bool

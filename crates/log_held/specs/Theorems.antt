@@ -1,6 +1,6 @@
 -- Where a log is decided, nothing more has to be read of it.
 use Prim.Native.Nat.{ℕ}
-use mathlib.Core.Bool.{true}
+use mathlib.Core.Bool.{false, true}
 use mathlib.Core.List.{List, []}
 use mathlib.Core.Path.{_≡_}
 use Rattle.log_rules.specs.Output.{restOf}
@@ -14,6 +14,11 @@ pub record Settled : Type 0 where
   pub same :
       (l : Log) (line rest : List ℕ) → Good l line → decided l ≡ true
       → restOf (stageOf l) (l .lines) (heldOf line (l .len)) rest ≡ restOf (stageOf l) (l .lines) (heldOf line (l .len)) []
+  -- at the end of a line it is decided as soon as that is so: else there is a text that changes what is written
+  pub not-yet :
+      (l : Log) (line : List ℕ) → l .len ≡ 0 → decided l ≡ false
+      → (rest : List ℕ)
+      × (restOf (stageOf l) (l .lines) (heldOf line (l .len)) rest ≡ restOf (stageOf l) (l .lines) (heldOf line (l .len)) [] → ⊥)
   -- "After a bad or missing first line the program prints only that refusal": nothing more
   pub nothing :
       (l : Log) (line rest : List ℕ) → stageOf l ≡ rules.over → restOf (stageOf l) (l .lines) (heldOf line (l .len)) rest ≡ []
