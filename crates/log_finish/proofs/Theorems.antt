@@ -5,6 +5,7 @@ use mathlib.Core.List.{List, [], _++_, append-assoc, append-nil}
 use mathlib.Core.Path.{_∙_, _≡_, ap, refl, sym}
 use native.Mathlib.Omega.{arith}
 use Rattle.decimal.proofs.Put.{put-stands}
+use Rattle.log_held.proofs.Theorems.{settled}
 use Rattle.log_held.specs.Feed.{stageOf}
 use Rattle.log_held.specs.declared.Log.{Log}
 use Rattle.log_rules.specs.Output.{outputOf, restOf}
@@ -34,18 +35,24 @@ fed-all (piece {l = l} {l′ = l′} {line = line} {line′ = line′} {p = p} {
     ∙ ap (λ (x : List ℕ). (x ++ texts) ++ restOf (stageOf l′) (l′ .lines) (heldOf line′ (l′ .len)) rest)
     (sym (front out (w .written) out₁ (f .count) (w .wrote) (w .room))))))
 
+-- and the end, where what follows does not matter
+module _ (l l′ : Log) (line line′ texts out out′ : List ℕ) (ps : List (List ℕ)) (r : ℕ)
+    (start : (stageOf l ≡ rules.fresh) × (l .lines ≡ 0) × (l .len ≡ 0)) (fed : Feeds l line ps texts l′ line′) (end : Finished l′ line′ r out out′) where
+  abbrev left : List ℕ → List ℕ
+  left rest = restOf (stageOf l′) (l′ .lines) (heldOf line′ (l′ .len)) rest
+
+  written : (rest : List ℕ) → left rest ≡ left [] → texts ++ take r out′ ≡ outputOf (joined ps ++ rest)
+  written rest same =
+      ap (λ (x : List ℕ). texts ++ x) (front out (left []) out′ r (end .wrote) (end .room) ∙ sym same)
+      ∙ (sym (fed-all fed rest)
+      ∙ (ap (λ (s : rules.Stage). restOf s (l .lines) (heldOf line (l .len)) (joined ps ++ rest)) (start .0)
+      ∙ (ap (λ (k : ℕ). restOf rules.fresh k (heldOf line (l .len)) (joined ps ++ rest)) (start .1)
+      ∙ ap (λ (n : ℕ). restOf rules.fresh 0 (heldOf line n) (joined ps ++ rest)) (start .2))))
+
 pub cuts-do-not-matter : CutsDoNotMatter
-cuts-do-not-matter = record { output = output }
-  where
-    output :
-        (l l′ : Log) (line line′ texts out out′ : List ℕ) (ps : List (List ℕ)) (r : ℕ)
-        → (stageOf l ≡ rules.fresh) × (l .lines ≡ 0) × (l .len ≡ 0) → Feeds l line ps texts l′ line′ → Finished l′ line′ r out out′
-        → texts ++ take r out′ ≡ outputOf (joined ps)
-    output l l′ line line′ texts out out′ ps r start fed end =
-        let last = restOf (stageOf l′) (l′ .lines) (heldOf line′ (l′ .len)) [] in
-        ap (λ (x : List ℕ). texts ++ x) (front out last out′ r (end .wrote) (end .room))
-        ∙ (sym (fed-all fed [])
-        ∙ (ap (restOf (stageOf l) (l .lines) (heldOf line (l .len))) (append-nil (joined ps))
-        ∙ (ap (λ (s : rules.Stage). restOf s (l .lines) (heldOf line (l .len)) (joined ps)) (start .0)
-        ∙ (ap (λ (k : ℕ). restOf rules.fresh k (heldOf line (l .len)) (joined ps)) (start .1)
-        ∙ ap (λ (n : ℕ). restOf rules.fresh 0 (heldOf line n) (joined ps)) (start .2)))))
+cuts-do-not-matter = record {
+  output = λ l l′ line line′ texts out out′ ps r start fed end.
+      written l l′ line line′ texts out out′ ps r start fed end [] refl ∙ ap outputOf (append-nil (joined ps));
+  whatever-follows = λ l l′ line line′ texts out out′ ps r start fed end good e rest.
+      written l l′ line line′ texts out out′ ps r start fed end rest (settled .same l′ line′ rest good e);
+}

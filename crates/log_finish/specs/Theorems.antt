@@ -1,9 +1,10 @@
 -- The output of a log does not depend on how it is cut into pieces.
 use Prim.Native.Nat.{ℕ}
 use lib.ListN.{take}
+use mathlib.Core.Bool.{true}
 use mathlib.Core.List.{List, [], _++_, _∷_}
 use mathlib.Core.Path.{_≡_}
-use Rattle.log_held.specs.Feed.{FedFrom, stageOf}
+use Rattle.log_held.specs.Feed.{FedFrom, Good, decided, stageOf}
 use Rattle.log_held.specs.declared.Fed.{Fed}
 use Rattle.log_held.specs.declared.Log.{Log}
 use Rattle.log_rules.specs.Output.{outputOf}
@@ -28,3 +29,8 @@ pub record CutsDoNotMatter : Type 0 where
       (l l′ : Log) (line line′ texts out out′ : List ℕ) (ps : List (List ℕ)) (r : ℕ)
       → (stageOf l ≡ rules.fresh) × (l .lines ≡ 0) × (l .len ≡ 0) → Feeds l line ps texts l′ line′ → Finished l′ line′ r out out′
       → texts ++ take r out′ ≡ outputOf (joined ps)
+  -- where the log that they come to is decided, it is the output of every log that begins with them
+  pub whatever-follows :
+      (l l′ : Log) (line line′ texts out out′ : List ℕ) (ps : List (List ℕ)) (r : ℕ)
+      → (stageOf l ≡ rules.fresh) × (l .lines ≡ 0) × (l .len ≡ 0) → Feeds l line ps texts l′ line′ → Finished l′ line′ r out out′
+      → Good l′ line′ → decided l′ ≡ true → (rest : List ℕ) → texts ++ take r out′ ≡ outputOf (joined ps ++ rest)
