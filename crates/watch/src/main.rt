@@ -5,6 +5,7 @@ ghost use Prim.Native.Nat.{_+_, _*_, _≤_};
 ghost use lib.ListN.{length};
 ghost use Rattle.log_held.specs.Feed.{Good};
 ghost use Rattle.watch.specs.Turn.{Answered, Turned};
+ghost use Rattle.watch.specs.Run.{Pumped, Ran};
 
 // The log after a piece, how many bytes of answers were handed to write, whether to go on, and whether a read or a write failed.
 pub struct Step {
@@ -50,10 +51,10 @@ fn one_piece(log: Log, piece: &mut [u8], line: &mut [u8], out: &mut [u8]) -> Ste
 }
 
 // All pieces. A proved loop has to end, and nothing says that the input does: the turns are counted down from a number that no run uses up.
-// If they were used up, that would be a failure: more of the log would be left to read.
+// If they were used up, that would be a failure: there would be more to read.
 fn pump(first: Log, piece: &mut [u8], line: &mut [u8], out: &mut [u8]) -> Step
     requires { ⌜ Good first (now line) × ((length (now piece) + 700) * 16 ≤ length (now out)) ⌝ }
-    ensures { λ s. ⌜ Good (s .log) (now (line .exit)) ⌝ }
+    ensures { λ s. ⌜ Pumped first (now (line .entry)) s (now (line .exit)) ⌝ }
 {
     let mut log = first;
     let mut turns = u64::MAX;
@@ -73,6 +74,31 @@ fn pump(first: Log, piece: &mut [u8], line: &mut [u8], out: &mut [u8]) -> Step
     }
 }
 
+// All pieces, and what is still to be written then. Where a read or a write failed, that is nothing: what was read is not the whole log.
+// The contracts of read and write leave open that the pieces are the input's bytes and that what is handed to write is put out.
+fn run(piece: &mut [u8], line: &mut [u8], out: &mut [u8]) -> Step
+    requires { ⌜ (length (now line) ≡ 700) × ((length (now piece) + 700) * 16 ≤ length (now out)) ⌝ }
+    ensures { λ s. ⌜ Ran s (now (out .exit)) ⌝ }
+{
+    let s = pump(log::start(), piece, line, out);
+    let log = s.log;
+    if s.failed {
+        return Step {
+            log,
+            count: 0,
+            more: false,
+            failed: s.failed,
+        };
+    }
+    let count = log_finish::finish(log, line, out);
+    Step {
+        log,
+        count,
+        more: false,
+        failed: false,
+    }
+}
+
 // 16 bytes for each byte of a piece and of the line that is held.
 fn answers() -> [u8; 1059776]
     ensures { λ r. ⌜ 1059776 ≡ length r ⌝ }
@@ -80,19 +106,14 @@ fn answers() -> [u8; 1059776]
     [0; 1059776]
 }
 
-// Where a read or a write failed, the end line is left out: what was read is not the whole log.
 fn main() {
     let mut piece = io::large_buffer();
     let mut line = [0u8; 700];
     let mut out = answers();
-    let s = pump(log::start(), &mut piece, &mut line, &mut out);
-    if s.failed {
-        io::write_all(libc::STDERR_FILENO, b"watch: a read or a write failed\n");
-        return;
-    }
-    let log = s.log;
-    let count = log_finish::finish(log, &line, &mut out);
-    if !io::write_all(libc::STDOUT_FILENO, &out[..count]) {
+    let s = run(&mut piece, &mut line, &mut out);
+    let count = s.count;
+    let written = io::write_all(libc::STDOUT_FILENO, &out[..count]);
+    if s.failed | !written {
         io::write_all(libc::STDERR_FILENO, b"watch: a read or a write failed\n");
     }
 }
