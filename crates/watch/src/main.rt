@@ -41,9 +41,9 @@ fn one_piece(log: Log, piece: &mut [u8], line: &mut [u8], out: &mut [u8]) -> Ste
     let s = answer(log, piece, got, line, out);
     let count = s.count;
     let written = io::write_all(libc::STDOUT_FILENO, &out[..count]);
-    let next = s.log;
+    let after = s.log;
     Step {
-        log: next,
+        log: after,
         count,
         more: s.more & written,
         failed: s.failed | !written,
