@@ -37,7 +37,8 @@ fed-all (piece {l = l} {l′ = l′} {line = line} {line′ = line′} {p = p} {
 
 -- and the end, where what follows does not matter
 module _ (l l′ : Log) (line line′ texts out out′ : List ℕ) (ps : List (List ℕ)) (r : ℕ)
-    (start : (stageOf l ≡ rules.fresh) × (l .lines ≡ 0) × (l .len ≡ 0)) (fed : Feeds l line ps texts l′ line′) (end : Finished l′ line′ r out out′) where
+    (start : (stageOf l ≡ rules.fresh) × (l .lines ≡ 0) × (l .len ≡ 0)) (fed : Feeds l line ps texts l′ line′)
+    (end : Finished l′ line′ r out out′) where
   abbrev left : List ℕ → List ℕ
   left rest = restOf (stageOf l′) (l′ .lines) (heldOf line′ (l′ .len)) rest
 

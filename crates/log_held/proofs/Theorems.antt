@@ -7,19 +7,19 @@ use mathlib.Core.List.{List, [], _++_, _∷_, append-assoc, append-nil}
 use mathlib.Core.Logic.{_⊎_, inl, inr, ⊎-elim}
 use mathlib.Core.Path.{_∙_, _≡_, ap, refl, subst, subst⁻¹, sym}
 use native.Mathlib.Omega.{arith}
-use Rattle.forms.proofs.Lines.{line-rest}
 use Rattle.decimal.specs.Text.{decimal, digits}
 use Rattle.first_line.specs.Start.{bare}
+use Rattle.forms.proofs.Lines.{line-rest}
 use Rattle.forms.specs.Form.{Says, bareRing, formText}
-use Rattle.log_rules.proofs.Theorems.{lines-say}
-use Rattle.refusal.specs.declared.Refusal.the-variants.{NotAForm}
-use Rattle.refusal.specs.declared.Verdict.the-variants.{Refused}
 use Rattle.laws.proofs.Tests.{both, false-true, one-of}
 use Rattle.log_rules.proofs.Cuts.{rest-cut, rest-done, rest-full, rest-held, rest-more, rest-over}
 use Rattle.log_rules.proofs.Ends.{ended-append, ended-long, form-ended, line-ended, no-line, unended-append}
+use Rattle.log_rules.proofs.Theorems.{lines-say}
 use Rattle.log_rules.specs.Lines.{lineLimit}
 use Rattle.log_rules.specs.Output.{restOf}
 use Rattle.log_rules.specs.Pieces.{PartLine, another, empty, hasLine, heldOf, lineBytes, notTold}
+use Rattle.refusal.specs.declared.Refusal.the-variants.{NotAForm}
+use Rattle.refusal.specs.declared.Verdict.the-variants.{Refused}
 use Rattle.log_held.proofs.Held.{held-least, told-line, told-long}
 use Rattle.log_held.specs.Feed.{allAnswered, decidedBy, lastIsNext, stageOf, tooLong}
 use Rattle.log_held.specs.Theorems.{Settled}
@@ -35,7 +35,8 @@ abbrev Closes : rules.Stage → ℕ → Type 0
 Closes s k = (rest : List ℕ) → restOf (notTold s (k + 1) .stage) (k + 1) [] rest ≡ rules.endText (notTold s (k + 1) .stage)
 
 -- what is held is too long: it is refused, whatever follows
-module _ (s : rules.Stage) (k : ℕ) {held : List ℕ} (part : PartLine held) (many : lineBytes ≤ length held) (under : k < lineLimit) (closes : Closes s k) where
+module _ (s : rules.Stage) (k : ℕ) {held : List ℕ} (part : PartLine held) (many : lineBytes ≤ length held) (under : k < lineLimit)
+    (closes : Closes s k) where
   refused : (rest : List ℕ) (t : Bool) → hasLine rest ≡ t
       → restOf s k held rest ≡ notTold s (k + 1) .text ++ rules.endText (notTold s (k + 1) .stage)
   refused rest true e =
@@ -123,8 +124,8 @@ pub settled : Settled
 settled = record {
   same = λ l line rest g e. same-rest line (l .lines) (l .len) (g .places) (g .part) rest (stageOf l) e;
   not-yet = λ l line unheld e.
-      subst⁻¹ (λ (n : ℕ). (rest : List ℕ) × (restOf (stageOf l) (l .lines) (heldOf line n) rest ≡ restOf (stageOf l) (l .lines) (heldOf line n) [] → ⊥))
-      unheld
+      let left : ℕ → List ℕ → List ℕ = λ n rest. restOf (stageOf l) (l .lines) (heldOf line n) rest in
+      subst⁻¹ (λ (n : ℕ). (rest : List ℕ) × (left n rest ≡ left n [] → ⊥)) unheld
       (open-at (stageOf l) (l .lines) (subst (λ (n : ℕ). decidedBy (stageOf l) (l .lines) n ≡ false) unheld e));
   nothing = λ l line rest e.
       ap (λ (s : rules.Stage). restOf s (l .lines) (heldOf line (l .len)) rest) e ∙ rest-over (l .lines) (heldOf line (l .len)) rest;

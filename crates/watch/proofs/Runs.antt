@@ -1,11 +1,11 @@
 -- What turns come to, one after the other. Assumes nothing.
-use Prim.Native.Nat.{ℕ}
+use Prim.Native.Nat.{_-_, _<_, ℕ}
 use borrow.Author.Tests.{eqb-false, lt-ltb}
 use lib.IntN.{negsuc, pos, ℤ}
 use lib.Signed.{ltZ}
 use mathlib.Core.Bool.{Bool, _&&_, _||_, false, not, true}
 use mathlib.Core.List.{List, [], _++_, _∷_, append-nil}
-use mathlib.Core.Path.{_∙_, _≡_, refl, subst, sym}
+use mathlib.Core.Path.{_∙_, _≡_, refl, subst, subst⁻¹, sym}
 use native.Mathlib.Omega.{arith}
 use Rattle.laws.proofs.Tests.{false-true}
 use Rattle.log_finish.specs.Theorems.{Feeds, no-piece, piece}
@@ -15,28 +15,31 @@ use Rattle.watch.specs.Run.{Pumped, Turns, another, isEnd, last, pieceOf
 use Rattle.watch.specs.Turn.{Turned}
 use Rattle.watch.specs.declared.Step.{Step}
 
-pub no-turns-left : (l : Log) (line : List ℕ) → Good l line → Pumped l line (record { log = l; count = 0; more = false; failed = true }) line
-no-turns-left l line good = record { pieces = []; texts = []; end = false; turns = ran-out; fed = no-piece; good = good }
+pub no-turns-left : (n : ℕ) (l : Log) (line : List ℕ) → n ≡ 0 → Good l line
+    → Pumped n l line (record { log = l; count = 0; more = false; failed = true }) line
+no-turns-left n l line none good =
+    subst⁻¹ (λ (m : ℕ). Pumped m l line (record { log = l; count = 0; more = false; failed = true }) line) none
+    (record { pieces = []; texts = []; end = false; turns = ran-out; fed = no-piece; good = good })
 
-module _ {l : Log} {buffer line line₁ out out₁ : List ℕ} {s₁ : Step} (t : Turned l buffer s₁ line line₁ out out₁) where
-  pub last-turn : s₁ .more ≡ false → Pumped l line s₁ line₁
+module _ {n : ℕ} {l : Log} {buffer line line₁ out out₁ : List ℕ} {s₁ : Step} (some : 0 < n) (t : Turned l buffer s₁ line line₁ out out₁) where
+  pub last-turn : s₁ .more ≡ false → Pumped n l line s₁ line₁
   last-turn e = record {
     pieces = pieceOf t ∷ [];
     texts = textOf t;
     end = _;
-    turns = last t e;
+    turns = last some t e;
     fed =
         subst (λ (x : List ℕ). Feeds l line (pieceOf t ∷ []) x (s₁ .log) line₁) (append-nil (textOf t))
         (piece (record { log = s₁ .log; count = s₁ .count }) (t .answers) no-piece);
     good = t .answers .good;
   }
 
-  pub one-more : s₁ .more ≡ true → (s : Step) (line′ : List ℕ) → Pumped (s₁ .log) line₁ s line′ → Pumped l line s line′
+  pub one-more : s₁ .more ≡ true → (s : Step) (line′ : List ℕ) → Pumped (n - 1) (s₁ .log) line₁ s line′ → Pumped n l line s line′
   one-more e s line′ later = record {
     pieces = pieceOf t ∷ later .pieces;
     texts = textOf t ++ later .texts;
     end = later .end;
-    turns = another t e (later .turns);
+    turns = another some t e (later .turns);
     fed = piece (record { log = s₁ .log; count = s₁ .count }) (t .answers) (later .fed);
     good = later .good;
   }
@@ -57,10 +60,10 @@ no-more true false false false e f g = sym f
 no-more false decides written true e f g = absurd (false-true (sym f))
 no-more false decides written false e f g = absurd (false-true (g refl))
 
-pub decided-then : {l : Log} {line line′ texts : List ℕ} {ps : List (List ℕ)} {end : Bool} {s : Step} → Turns l line ps texts end s line′
+pub decided-then : {n : ℕ} {l : Log} {line line′ texts : List ℕ} {ps : List (List ℕ)} {end : Bool} {s : Step} → Turns n l line ps texts end s line′
     → s .failed ≡ false → end ≡ false → decided (s .log) ≡ true
 decided-then ran-out f g = absurd (false-true (sym f))
-decided-then {s = s} (last t e) f g =
+decided-then {s = s} (last some t e) f g =
     no-more (ltZ (pos 0) (t .got)) (decided (s .log)) (t .written) (ltZ (t .got) (pos 0)) (sym (t .more) ∙ e) (sym (t .failed) ∙ f)
     (gave-bytes (t .got) g)
-decided-then (another t e later) f g = decided-then later f g
+decided-then (another some t e later) f g = decided-then later f g

@@ -1,5 +1,5 @@
 -- The whole program: one turn after the other, and then the end of the log.
-use Prim.Native.Nat.{_≤_, ℕ}
+use Prim.Native.Nat.{_-_, _<_, _≤_, ℕ}
 use Rattle.io.specs.Counts.{clamped}
 use lib.Dec.{eqb}
 use lib.IntN.{negsuc, pos, ℤ}
@@ -15,10 +15,14 @@ use Rattle.log_rules.specs.Output.{outputOf}
 use Rattle.watch.specs.Turn.{Turned}
 use Rattle.watch.specs.declared.Step.{Step}
 
--- "0 at the end of the input"
+-- read answers 0 at the end of the input
 abbrev pub isEnd : ℤ → Bool
 isEnd (pos k) = eqb k 0
 isEnd (negsuc k) = false
+
+-- the most turns that are made: u64::MAX
+abbrev pub turnLimit : ℕ
+turnLimit = 18446744073709551615
 
 -- the piece that a turn has answered, and what it has handed to write
 abbrev pub pieceOf : {l : Log} {buffer line line′ out out′ : List ℕ} {s : Step} → Turned l buffer s line line′ out out′ → List ℕ
@@ -27,23 +31,23 @@ pieceOf {buffer = buffer} t = take (clamped (t .got) (length buffer)) buffer
 abbrev pub textOf : {l : Log} {buffer line line′ out out′ : List ℕ} {s : Step} → Turned l buffer s line line′ out out′ → List ℕ
 textOf {out′ = out′} {s = s} t = take (s .count) out′
 
--- The turns of the program from a log on, with the buffer of the line that is held: the pieces, what was handed to write for them, joined,
--- whether the last read told the end of the input, and what the last turn came to. A turn is followed by another exactly if it says `more`;
--- turns that run out are a failure.
-pub data Turns : Log → List ℕ → List (List ℕ) → List ℕ → Bool → Step → List ℕ → Type 0 where
-  ran-out : {l : Log} {line : List ℕ} → Turns l line [] [] false (record { log = l; count = 0; more = false; failed = true }) line
-  last : {l : Log} {buffer line line′ out out′ : List ℕ} {s : Step} (t : Turned l buffer s line line′ out out′) → s .more ≡ false
-      → Turns l line (pieceOf t ∷ []) (textOf t) (isEnd (t .got)) s line′
-  another : {l : Log} {buffer line line₁ line′ out out₁ texts : List ℕ} {s₁ s : Step} {ps : List (List ℕ)} {end : Bool}
-      (t : Turned l buffer s₁ line line₁ out out₁) → s₁ .more ≡ true → Turns (s₁ .log) line₁ ps texts end s line′
-      → Turns l line (pieceOf t ∷ ps) (textOf t ++ texts) end s line′
+-- The turns of the program, at most n, from a log on, with the buffer of the line that is held: the pieces, what was handed to write for
+-- them, joined, whether the last read told the end of the input, and what the last turn came to. A turn is followed by another exactly if
+-- it says `more`; that turns run out is a failure.
+pub data Turns : ℕ → Log → List ℕ → List (List ℕ) → List ℕ → Bool → Step → List ℕ → Type 0 where
+  ran-out : {l : Log} {line : List ℕ} → Turns 0 l line [] [] false (record { log = l; count = 0; more = false; failed = true }) line
+  last : {n : ℕ} {l : Log} {buffer line line′ out out′ : List ℕ} {s : Step} → 0 < n → (t : Turned l buffer s line line′ out out′)
+      → s .more ≡ false → Turns n l line (pieceOf t ∷ []) (textOf t) (isEnd (t .got)) s line′
+  another : {n : ℕ} {l : Log} {buffer line line₁ line′ out out₁ texts : List ℕ} {s₁ s : Step} {ps : List (List ℕ)} {end : Bool} → 0 < n
+      → (t : Turned l buffer s₁ line line₁ out out₁) → s₁ .more ≡ true → Turns (n - 1) (s₁ .log) line₁ ps texts end s line′
+      → Turns n l line (pieceOf t ∷ ps) (textOf t ++ texts) end s line′
 
 -- all turns: the log that they come to is the one that was fed their pieces
-pub record Pumped (l : Log) (line : List ℕ) (s : Step) (line′ : List ℕ) : Type 0 where
+pub record Pumped (n : ℕ) (l : Log) (line : List ℕ) (s : Step) (line′ : List ℕ) : Type 0 where
   pub pieces : List (List ℕ)
   pub texts : List ℕ
   pub end : Bool
-  pub turns : Turns l line pieces texts end s line′
+  pub turns : Turns n l line pieces texts end s line′
   pub fed : Feeds l line pieces texts (s .log) line′
   pub good : Good (s .log) line′
 
@@ -55,7 +59,7 @@ pub record Ran (s : Step) (out : List ℕ) : Type 0 where
   pub line : List ℕ
   pub line′ : List ℕ
   pub before : Step
-  pub pumped : Pumped first line before line′
+  pub pumped : Pumped turnLimit first line before line′
   pub failed : s .failed ≡ before .failed
   pub output : s .failed ≡ false → pumped .texts ++ take (s .count) out ≡ outputOf (joined (pumped .pieces))
   pub whatever-follows :

@@ -5,7 +5,7 @@ ghost use Prim.Native.Nat.{_+_, _*_, _≤_};
 ghost use lib.ListN.{length};
 ghost use Rattle.log_held.specs.Feed.{Good};
 ghost use Rattle.watch.specs.Turn.{Answered, Turned};
-ghost use Rattle.watch.specs.Run.{Pumped, Ran};
+ghost use Rattle.watch.specs.Run.{turnLimit, Pumped, Ran};
 
 // The log after a piece, how many bytes of answers were handed to write, whether to go on, and whether a read or a write failed.
 pub struct Step {
@@ -32,7 +32,9 @@ fn answer(log: Log, piece: &[u8], got: isize, line: &mut [u8], out: &mut [u8]) -
     }
 }
 
-// One read, its lines, and one write.
+// One read, its lines, and one write. A contract does not name the calls inside: that read's own answer and buffer are answered, and that the
+// first `count` bytes of `out` go to write, is read off the body. What the contracts of read and write leave open: that the bytes in the
+// buffer are the input's, and that those handed to write are put out.
 fn one_piece(log: Log, piece: &mut [u8], line: &mut [u8], out: &mut [u8]) -> Step
     requires { ⌜ Good log (now line) × ((length (now piece) + 700) * 16 ≤ length (now out)) ⌝ }
     ensures { λ s. ⌜ Turned log (now (piece .exit)) s (now (line .entry)) (now (line .exit)) (now (out .entry)) (now (out .exit)) ⌝ }
@@ -51,10 +53,10 @@ fn one_piece(log: Log, piece: &mut [u8], line: &mut [u8], out: &mut [u8]) -> Ste
 }
 
 // All pieces. A proved loop has to end, and nothing says that the input does: the turns are counted down from a number that no run uses up.
-// If they were used up, that would be a failure: there would be more to read.
+// That they are used up would be a failure: there would be more to read.
 fn pump(first: Log, piece: &mut [u8], line: &mut [u8], out: &mut [u8]) -> Step
     requires { ⌜ Good first (now line) × ((length (now piece) + 700) * 16 ≤ length (now out)) ⌝ }
-    ensures { λ s. ⌜ Pumped first (now (line .entry)) s (now (line .exit)) ⌝ }
+    ensures { λ s. ⌜ Pumped turnLimit first (now (line .entry)) s (now (line .exit)) ⌝ }
 {
     let mut log = first;
     let mut turns = u64::MAX;
@@ -74,8 +76,8 @@ fn pump(first: Log, piece: &mut [u8], line: &mut [u8], out: &mut [u8]) -> Step
     }
 }
 
-// All pieces, and what is still to be written then. Where a read or a write failed, that is nothing: what was read is not the whole log.
-// The contracts of read and write leave open that the pieces are the input's bytes and that what is handed to write is put out.
+// All pieces, and what is still to be written then, the first `count` bytes of `out`. Where a read or a write failed, that is nothing: what
+// was read is not the whole log.
 fn run(piece: &mut [u8], line: &mut [u8], out: &mut [u8]) -> Step
     requires { ⌜ (length (now line) ≡ 700) × ((length (now piece) + 700) * 16 ≤ length (now out)) ⌝ }
     ensures { λ s. ⌜ Ran s (now (out .exit)) ⌝ }

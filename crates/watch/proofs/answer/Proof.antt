@@ -1,8 +1,8 @@
 use borrow.Author.Needs.{needs, sfits-of}
 use lib.IntN.{pos, ℤ}
+use lib.ListN.{length}
 use lib.Signed.{ltZ}
 use mathlib.Core.Bool.{_&&_, not}
-use lib.ListN.{length}
 use mathlib.Core.Path.{_∙_, _≡_, ap}
 use mir.Facts.{toZ-ofZ}
 use mir.Syntax.{w64}
@@ -37,7 +37,11 @@ returns c =
     let most = length (start .args .piece .now) in
     let f : SFits w64 (start .args .got) = sfits-of (start .fits .got .sfits) in
     let n : at-count .count .result ≡ clamped (start .args .got) most = at-count .count .ensures .1 ∙ ap (λ (z : ℤ). clamped z most) (toZ-ofZ f) in
-    record { answers = rw (← n) (at-feed .feed .ensures); more = rw (toZ-ofZ f) (λ x. ltZ (pos 0) (start .args .got) && not (c .is-decided .ensures x)); failed = rw (toZ-ofZ f) }
+    record {
+      answers = rw (← n) (at-feed .feed .ensures);
+      more = rw (toZ-ofZ f) (λ x. ltZ (pos 0) (start .args .got) && not (c .is-decided .ensures x));
+      failed = rw (toZ-ofZ f);
+    }
 
 pub answer-spec : {M : Type 1} → statement M
 answer-spec = tie.close (tie.spec count-requires slice-aggregate-feed feed-requires is-decided-requires same-length same-length-2 returns)
