@@ -7,7 +7,7 @@ ghost use Rattle.log_held.specs.Feed.{Good};
 ghost use Rattle.watch.specs.Turn.{Answered, Turned};
 ghost use Rattle.watch.specs.Run.{turnLimit, Pumped, Ran};
 
-// The log after a piece, how many bytes of answers were handed to write, whether to go on, and whether a read or a write failed.
+// The log after a piece, how many bytes of answers go to write, whether to go on, and whether a read or a write failed.
 pub struct Step {
     pub log: Log,
     pub count: usize,
