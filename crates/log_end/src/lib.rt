@@ -37,8 +37,9 @@ pub fn put_ring_end(out: &mut [u8], at: usize, ring: Ring, moves: u64) -> usize
     requires { ⌜ at + 256 ≤ length (now out) ⌝ }
     ensures { λ r. ⌜ Short (now (out .entry)) at (ringEnd (state ring) moves) r (now (out .exit)) ⌝ }
 {
-    let flight = ring.in_transit();
-    let black = ring.black_nodes();
+    let flight = ring_check::sum_to(&ring.pending, 96);
+    let color = ring.color;
+    let black = color::count_black(color);
     put_counts(
         out,
         at,
@@ -55,7 +56,7 @@ pub fn put_tree_end(out: &mut [u8], at: usize, tree: Tree) -> usize
     requires { ⌜ (at + 256 ≤ length (now out)) × Sound (treeView.state tree) ⌝ }
     ensures { λ r. ⌜ Short (now (out .entry)) at (treeEnd (treeView.state tree)) r (now (out .exit)) ⌝ }
 {
-    let acks = tree.acks_in_transit();
+    let acks = tree_check::sum_of(&tree.acks);
     let engager = tree.engager;
     let root = tree.root;
     let a = put_item(out, at, b"(end (boards ", tree.n as u64);

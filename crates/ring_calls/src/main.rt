@@ -1,9 +1,10 @@
 // Document 01, "Runs to check", by calls: a sound state with 999,999 accepted sends. One more is accepted, the next is 9, and takes
-// still pass. Each line is the number of an answer, 0 where the step is accepted; then the total in transit, and what a driver tells.
+// still pass. Each line is the number of an answer, 0 where the step is accepted; then the total in transit and the black nodes, each with the
+// number of its answer before it, 3 of an unsound ring; and what a driver tells.
 use libc::STDOUT_FILENO;
+use refusal::Count;
 use ring::Ring;
 use ring::Stepped;
-use ring_rules::Reason;
 
 // Two nodes: node 0 is active and sent 999,999 messages, all of them in transit to node 1; the token is black.
 fn busy() -> Ring {
@@ -39,14 +40,17 @@ fn told(s: Stepped) -> Ring {
     ring
 }
 
-// 0 for conclusive, 1 for waiting, 2 for spent, and else the number of the refusal.
-fn reason_number(e: Reason) -> u64 {
-    match e {
-        Reason::Conclusive => 0,
-        Reason::Waiting => 1,
-        Reason::Spent => 2,
-        Reason::Stopped(r) => refusal::number(r) as u64,
-    }
+fn counted(c: Count) {
+    let verdict = c.verdict;
+    line(refusal::code(verdict) as u64);
+    line(c.number);
+}
+
+// The ring with more messages received than were sent: it is not sound.
+fn spoiled(ring: Ring) -> Ring {
+    let mut next = ring;
+    next.received[0] = 1000001;
+    next
 }
 
 fn main() {
@@ -55,8 +59,11 @@ fn main() {
     let third = told(second.take(1));
     let fourth = told(third.send(1, 0));
     let last = told(fourth.take(1));
-    line(last.in_transit());
+    counted(last.in_transit());
+    counted(last.black_nodes());
+    counted(spoiled(last).in_transit());
+    counted(spoiled(last).black_nodes());
     let driven = last.drive(1001);
     let reason = driven.reason;
-    line(reason_number(reason));
+    line(ring_rules::reason_number(reason) as u64);
 }

@@ -1,9 +1,11 @@
 // The tree of Dijkstra and Scholten by value: start, soundness check, the six steps. Every state and request has an answer.
+use refusal::Count;
 use refusal::Refusal;
 use refusal::Verdict;
 use tree_check::Rest;
 ghost use mathlib.Core.Path.{_≡_};
 ghost use Prim.Native.Nat.{_<_};
+ghost use Rattle.refusal.specs.Counts.{countOf};
 ghost use Rattle.tree_rules.specs.Rules.{Send, Take, Idle, Ack, Leave, Announce};
 ghost use Rattle.tree_rules.specs.Soundness.{soundTest};
 ghost use Rattle.tree_rules.specs.Answers.{answerOf, stepOf};
@@ -214,10 +216,11 @@ impl Tree {
         self.step(6, 0, 0)
     }
 
-    // How many acknowledgements are under way.
-    pub fn acks_in_transit(self) -> u64
-        ensures { λ m. ⌜ m ≡ acksTotal (state self) ⌝ }
+    // How many acknowledgements are in transit, of a sound state.
+    pub fn acks_in_transit(self) -> Count
+        ensures { λ c. ⌜ c ≡ countOf (soundTest (state self)) (acksTotal (state self)) ⌝ }
     {
-        tree_check::sum_of(&self.acks)
+        let sound = self.is_sound();
+        refusal::counted(sound, tree_check::sum_of(&self.acks))
     }
 }

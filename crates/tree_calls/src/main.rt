@@ -1,6 +1,8 @@
 // Document 01, "Runs to check", by calls: a sound state with 999,999 accepted sends. One more is accepted, the next is 9, and takes
-// still pass. Each line is the number of an answer, 0 where the step is accepted; then the acknowledgements under way.
+// still pass. Each line is the number of an answer, 0 where the step is accepted; then the acknowledgements in
+// transit before and after one is acknowledged, each with the number of its answer before it, 3 of an unsound tree.
 use libc::STDOUT_FILENO;
+use refusal::Count;
 use tree::Stepped;
 use tree::Tree;
 
@@ -39,6 +41,19 @@ fn told(s: Stepped) -> Tree {
     tree
 }
 
+fn counted(c: Count) {
+    let verdict = c.verdict;
+    line(refusal::code(verdict) as u64);
+    line(c.number);
+}
+
+// The tree with one acknowledgement more than is owed: it is not sound.
+fn spoiled(tree: Tree) -> Tree {
+    let mut next = tree;
+    next.acks[0] = 1;
+    next
+}
+
 fn main() {
     let first = told(busy().send(0, 1));
     let second = told(first.send(0, 1));
@@ -46,6 +61,7 @@ fn main() {
     let fourth = told(third.send(1, 0));
     let fifth = told(fourth.take(1, 0));
     let last = told(fifth.ack(0));
-    line(fifth.acks_in_transit());
-    line(last.acks_in_transit());
+    counted(fifth.acks_in_transit());
+    counted(last.acks_in_transit());
+    counted(spoiled(last).acks_in_transit());
 }

@@ -1,12 +1,13 @@
+use Rattle.ring_rules.specs.State.{blackNodes, inTransit}
 use borrow.Author.Needs.{needs}
 use Rattle.log_end.proofs.put_ring_end.Statement.{statement}
 use Rattle.log_end.proofs.put_ring_end.Tie as tie
 
-in-transit-requires : tie.Need-in-transit-requires
-in-transit-requires c κs = search needs
+sum-to-requires : tie.Need-sum-to-requires
+sum-to-requires c κs = search needs
 
-black-nodes-requires : tie.Need-black-nodes-requires
-black-nodes-requires c κs = search needs
+count-black-requires : tie.Need-count-black-requires
+count-black-requires c κs = search needs
 
 cast-put-counts : tie.Need-cast-put-counts
 cast-put-counts c = search needs
@@ -18,16 +19,15 @@ same-length : tie.Need-same-length
 same-length c = search needs
 
 returns : tie.Need-returns
-returns c = let a = c .before .before .before .before .before .before .before .args in
-    let u = c .before .before .put-counts .ensures in
-    rw (← c .before .before .before .before .before .in-transit .ensures, ← c .before .before .before .before .black-nodes .ensures) u
+unfolding blackNodes inTransit
+returns c = rw (← c .before .before .before .before .before .before .sum-to .ensures .0, ← c .before .before .before .before .count-black .ensures) (c .before .before .put-counts .ensures)
 
 pub put-ring-end-spec : {M : Type 1} → statement M
 put-ring-end-spec =
     tie.close
     (tie.spec
-    in-transit-requires
-    black-nodes-requires
+    sum-to-requires
+    count-black-requires
     cast-put-counts
     put-counts-requires
     same-length
