@@ -1,15 +1,35 @@
--- A ring that is lent field by field, as the definitions see it.
+-- A ring that is lent field by field, truths as bytes: 1 is true, 0 is false. A byte above 1 where a truth is lent makes a state that is
+-- not sound ("any state handed in, 3, not sound"). "A refusal gives its number and the state handed in; no byte of a lent buffer differs."
 use Prim.Native.Nat.{ℕ}
 use lib.IntN.{ℤ}
-use mathlib.Core.Bool.{Bool}
+use mathlib.Core.Bool.{Bool, _&&_, cond}
 use mathlib.Core.List.{List}
 use mathlib.Core.Path.{_≡_}
-use Rattle.refusal.specs.Table.{codeOf}
+use Rattle.flag_bytes.specs.Flags.{areFlags, byteOf, bytesOf, flagOf, flagsOf, isFlag}
+use Rattle.refusal.specs.Table.{codeOf, settle}
+use Rattle.refusal.specs.declared.Refusal.the-variants.{Unsound}
+use Rattle.refusal.specs.declared.Verdict.{Verdict}
+use Rattle.refusal.specs.declared.Verdict.the-variants.{Accepted, Refused}
 use Rattle.ring_rules.specs.Answers.{stepOf}
 use Rattle.ring_rules.specs.Driver.{driveOf, reasonNumber}
+use Rattle.ring_rules.specs.Soundness.{soundTest}
 use Rattle.ring_rules.specs.State.{State}
+use Rattle.ring_rules.specs.declared.Reason.{Reason}
+use Rattle.ring_rules.specs.declared.Reason.the-variants.{Conclusive, Spent, Stopped, Waiting}
 
-abbrev pub lent : ℕ → List Bool → List ℕ → List ℕ → List ℕ → List ℕ → ℕ → ℤ → Bool → Bool → State
+pub record Lent : Type 0 where
+  pub n : ℕ
+  pub active : List ℕ
+  pub color : List ℕ
+  pub sent : List ℕ
+  pub received : List ℕ
+  pub pending : List ℕ
+  pub pos : ℕ
+  pub q : ℤ
+  pub black : ℕ
+  pub closed : ℕ
+
+abbrev pub lent : ℕ → List ℕ → List ℕ → List ℕ → List ℕ → List ℕ → ℕ → ℤ → ℕ → ℕ → Lent
 lent n active color sent received pending at q black closed =
     record {
       n = n;
@@ -24,11 +44,72 @@ lent n active color sent received pending at q black closed =
       closed = closed;
     }
 
--- a step of the ring r in place: the number of its answer, and the ring that lies in the fields afterwards
-abbrev pub SteppedTo : State → ℕ → ℕ → ℕ → ℕ → State → Type 0
-SteppedTo r kind i j number after = (number ≡ codeOf (stepOf r kind i j .verdict)) × (after ≡ stepOf r kind i j .state)
+-- each byte that stands for a truth is 0 or 1, those of places from n on too
+unfoldable pub flagsTest : Lent → Bool
+flagsTest l = areFlags (l .active) && (isFlag (l .black) && isFlag (l .closed))
 
--- the driver likewise: the number of its reason, its moves, and the ring afterwards
-abbrev pub DrivenTo : State → ℕ → ℕ → ℕ → State → Type 0
-DrivenTo r limit number moves after =
-    (number ≡ reasonNumber (driveOf r limit .reason)) × (moves ≡ driveOf r limit .moves) × (after ≡ driveOf r limit .state)
+-- the ring that lies there
+abbrev pub stateOf : Lent → State
+stateOf l =
+    record {
+      n = l .n;
+      active = flagsOf (l .active);
+      color = l .color;
+      sent = l .sent;
+      received = l .received;
+      pending = l .pending;
+      pos = l .pos;
+      q = l .q;
+      black = flagOf (l .black);
+      closed = flagOf (l .closed);
+    }
+
+-- the fields in which a ring lies
+abbrev pub lentOf : State → Lent
+lentOf r =
+    record {
+      n = r .n;
+      active = bytesOf (r .active);
+      color = r .color;
+      sent = r .sent;
+      received = r .received;
+      pending = r .pending;
+      pos = r .pos;
+      q = r .q;
+      black = byteOf (r .black);
+      closed = byteOf (r .closed);
+    }
+
+-- ---- soundness: 1 where the ring is sound, else 0
+
+abbrev pub soundNumber : Lent → ℕ
+soundNumber l = byteOf (flagsTest l && soundTest (stateOf l))
+
+-- ---- a step: the number of its answer, and the fields afterwards
+
+abbrev pub stepVerdict : Lent → ℕ → ℕ → ℕ → Verdict
+stepVerdict l kind i j = cond (flagsTest l) (stepOf (stateOf l) kind i j .verdict) (Refused Unsound)
+
+pub record SteppedTo (l : Lent) (kind i j number : ℕ) (after : Lent) : Type 0 where
+  pub told : number ≡ codeOf (stepVerdict l kind i j)
+  pub fields : after ≡ settle (stepVerdict l kind i j) (lentOf (stepOf (stateOf l) kind i j .state)) l
+
+-- ---- the driver: the number of its reason, its moves, and the fields afterwards
+
+abbrev pub driveReason : Lent → ℕ → Reason
+driveReason l limit = cond (flagsTest l) (driveOf (stateOf l) limit .reason) (Stopped Unsound)
+
+-- the driver is refused where it is stopped
+abbrev pub reasonVerdict : Reason → Verdict
+reasonVerdict Conclusive = Accepted
+reasonVerdict Waiting = Accepted
+reasonVerdict Spent = Accepted
+reasonVerdict (Stopped e) = Refused e
+
+abbrev pub driveVerdict : Lent → ℕ → Verdict
+driveVerdict l limit = reasonVerdict (driveReason l limit)
+
+pub record DrivenTo (l : Lent) (limit number moves moves′ : ℕ) (after : Lent) : Type 0 where
+  pub told : number ≡ reasonNumber (driveReason l limit)
+  pub made : moves′ ≡ settle (driveVerdict l limit) (driveOf (stateOf l) limit .moves) moves
+  pub fields : after ≡ settle (driveVerdict l limit) (lentOf (driveOf (stateOf l) limit .state)) l

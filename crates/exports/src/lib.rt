@@ -1,39 +1,53 @@
-// What other languages call: a ring lent field by field, stepped or driven in place; the text of a tree lent so, written and read.
+// What other languages call: a ring lent field by field, stepped or driven in place; the text of a tree lent so, written and read. Bytes and
+// numbers alone are lent, and a byte above 1 where a truth belongs is judged as an unsound state.
+use refusal::Refusal;
+use refusal::Verdict;
 use ring::Ring;
+use ring_rules::Reason;
 use tree::Tree;
 use tree_text::Written;
 ghost use mathlib.Core.Path.{_≡_};
-ghost use Rattle.ring_rules.specs.Soundness.{soundTest};
+ghost use mathlib.Core.Bool.{_&&_};
+ghost use Rattle.flag_bytes.specs.Flags.{areFlags, isFlag};
 ghost use Rattle.ring.specs.View.{state};
-ghost use Rattle.exports.specs.Lent.{lent, SteppedTo, DrivenTo};
-ghost use Rattle.exports.specs.LentTree.{lentTree, writtenLength, WrittenAs, ReadAs};
+ghost use Rattle.exports.specs.Lent.{lent, stateOf, soundNumber, reasonVerdict, SteppedTo, DrivenTo};
+ghost use Rattle.exports.specs.LentTree.{lentTree, WrittenAs, ReadAs};
+
+// Are the bytes of a lent ring's truths each 0 or 1?
+fn are_flags(active: [u8; 96], black: u8, closed: u8) -> bool
+    ensures { λ r. ⌜ r ≡ (areFlags active && (isFlag black && isFlag closed)) ⌝ }
+{
+    let column = flag_bytes::are_flags(&active);
+    column & ((black <= 1) & (closed <= 1))
+}
 
 // The ring that lies in lent fields.
 fn gathered(
     n: usize,
-    active: [bool; 96],
+    active: [u8; 96],
     color: [u8; 12],
     sent: [u32; 96],
     received: [u32; 96],
     pending: [u32; 96],
     pos: usize,
     q: i64,
-    black: bool,
-    closed: bool,
+    black: u8,
+    closed: u8,
 ) -> Ring
-    ensures { λ r. ⌜ state r ≡ lent n active color sent received pending pos q black closed ⌝ }
+    ensures { λ r. ⌜ state r ≡ stateOf (lent n active color sent received pending pos q black closed) ⌝ }
 {
+    let flags = flag_bytes::ring_flags(active);
     Ring {
         n,
-        active,
+        active: flags,
         color,
         sent,
         received,
         pending,
         pos,
         q,
-        black,
-        closed,
+        black: black == 1,
+        closed: closed == 1,
     }
 }
 
@@ -41,15 +55,15 @@ fn gathered(
 #[no_mangle]
 pub extern "C" fn ring_step(
     n: usize,
-    active: &mut [bool; 96],
+    active: &mut [u8; 96],
     color: &mut [u8; 12],
     sent: &mut [u32; 96],
     received: &mut [u32; 96],
     pending: &mut [u32; 96],
     pos: &mut usize,
     q: &mut i64,
-    black: &mut bool,
-    closed: &mut bool,
+    black: &mut u8,
+    closed: &mut u8,
     kind: u8,
     i: usize,
     j: usize,
@@ -57,7 +71,10 @@ pub extern "C" fn ring_step(
     ensures { λ r. ⌜ SteppedTo (lent n (now (active .entry)) (now (color .entry)) (now (sent .entry)) (now (received .entry)) (now (pending .entry)) (now (pos .entry)) (now (q .entry)) (now (black .entry)) (now (closed .entry))) kind i j r
         (lent n (now (active .exit)) (now (color .exit)) (now (sent .exit)) (now (received .exit)) (now (pending .exit)) (now (pos .exit)) (now (q .exit)) (now (black .exit)) (now (closed .exit))) ⌝ }
 {
-    let ring = gathered(
+    if !are_flags(*active, *black, *closed) {
+        return refusal::number(Refusal::Unsound);
+    }
+    let s = gathered(
         n,
         *active,
         *color,
@@ -68,12 +85,14 @@ pub extern "C" fn ring_step(
         *q,
         *black,
         *closed,
-    );
-    let s = ring.step(kind, i, j);
+    ).step(kind, i, j);
     let verdict = s.verdict;
+    let Verdict::Accepted = verdict else {
+        return refusal::code(verdict);
+    };
     let next = s.ring;
     let active_now = next.active;
-    *active = active_now;
+    *active = flag_bytes::ring_bytes(active_now);
     let color_now = next.color;
     *color = color_now;
     let sent_now = next.sent;
@@ -85,27 +104,28 @@ pub extern "C" fn ring_step(
     *pos = next.pos;
     let q_now = next.q;
     *q = q_now;
-    *black = next.black;
-    *closed = next.closed;
-    refusal::code(verdict)
+    *black = flag_bytes::byte(next.black);
+    *closed = flag_bytes::byte(next.closed);
+    0
 }
 
-// Is the ring sound?
+// Is the ring sound? 1 where it is, else 0.
 #[no_mangle]
 pub extern "C" fn ring_is_sound(
     n: usize,
-    active: &[bool; 96],
+    active: &[u8; 96],
     color: &[u8; 12],
     sent: &[u32; 96],
     received: &[u32; 96],
     pending: &[u32; 96],
     pos: usize,
     q: i64,
-    black: bool,
-    closed: bool,
-) -> bool
-    ensures { λ b. ⌜ b ≡ soundTest (lent n (now (active .entry)) (now (color .entry)) (now (sent .entry)) (now (received .entry)) (now (pending .entry)) pos q black closed) ⌝ }
+    black: u8,
+    closed: u8,
+) -> u8
+    ensures { λ r. ⌜ r ≡ soundNumber (lent n (now (active .entry)) (now (color .entry)) (now (sent .entry)) (now (received .entry)) (now (pending .entry)) pos q black closed) ⌝ }
 {
+    let flags = are_flags(*active, black, closed);
     let sound = gathered(
         n,
         *active,
@@ -118,28 +138,42 @@ pub extern "C" fn ring_is_sound(
         black,
         closed,
     ).is_sound();
-    sound
+    flag_bytes::byte(flags & sound)
+}
+
+fn reason_verdict(e: Reason) -> Verdict
+    ensures { λ v. ⌜ v ≡ reasonVerdict e ⌝ }
+{
+    match e {
+        Reason::Conclusive => Verdict::Accepted,
+        Reason::Waiting => Verdict::Accepted,
+        Reason::Spent => Verdict::Accepted,
+        Reason::Stopped(r) => Verdict::Refused(r),
+    }
 }
 
 // The driver in place: the number of its reason; `moves` is how many it made.
 #[no_mangle]
 pub extern "C" fn ring_drive(
     n: usize,
-    active: &[bool; 96],
+    active: &[u8; 96],
     color: &mut [u8; 12],
     sent: &[u32; 96],
     received: &[u32; 96],
     pending: &[u32; 96],
     pos: &mut usize,
     q: &mut i64,
-    black: &mut bool,
-    closed: bool,
+    black: &mut u8,
+    closed: u8,
     limit: u32,
     moves: &mut u32,
 ) -> u8
-    ensures { λ r. ⌜ DrivenTo (lent n (now (active .entry)) (now (color .entry)) (now (sent .entry)) (now (received .entry)) (now (pending .entry)) (now (pos .entry)) (now (q .entry)) (now (black .entry)) closed) limit r (now (moves .exit))
+    ensures { λ r. ⌜ DrivenTo (lent n (now (active .entry)) (now (color .entry)) (now (sent .entry)) (now (received .entry)) (now (pending .entry)) (now (pos .entry)) (now (q .entry)) (now (black .entry)) closed) limit r (now (moves .entry)) (now (moves .exit))
         (lent n (now (active .entry)) (now (color .exit)) (now (sent .entry)) (now (received .entry)) (now (pending .entry)) (now (pos .exit)) (now (q .exit)) (now (black .exit)) closed) ⌝ }
 {
+    if !are_flags(*active, *black, closed) {
+        return refusal::number(Refusal::Unsound);
+    }
     let ring = gathered(
         n,
         *active,
@@ -154,25 +188,27 @@ pub extern "C" fn ring_drive(
     );
     let d = ring.drive(limit);
     let reason = d.reason;
-    let made = d.moves;
+    let verdict = reason_verdict(reason);
+    let Verdict::Accepted = verdict else {
+        return refusal::code(verdict);
+    };
     let next = d.ring;
     let color_now = next.color;
     *color = color_now;
     *pos = next.pos;
     let q_now = next.q;
     *q = q_now;
-    *black = next.black;
-    *moves = made;
+    *black = flag_bytes::byte(next.black);
+    *moves = d.moves;
     ring_rules::reason_number(reason)
 }
 
-fn written_length(w: Written) -> usize
-    ensures { λ r. ⌜ r ≡ writtenLength w ⌝ }
+// Are the bytes of a lent tree's truths each 0 or 1?
+fn are_tree_flags(active: [u8; 16], closed: u8) -> bool
+    ensures { λ r. ⌜ r ≡ (areFlags active && isFlag closed) ⌝ }
 {
-    match w {
-        Written::Length(n) => n,
-        Written::NotWritten(_) => 0,
-    }
+    let column = flag_bytes::are_flags(&active);
+    column & (closed <= 1)
 }
 
 // The text of a tree in the buffer: the number of the answer, and in `length` how long it is.
@@ -180,44 +216,54 @@ fn written_length(w: Written) -> usize
 pub extern "C" fn tree_write(
     n: usize,
     root: usize,
-    active: &[bool; 16],
+    active: &[u8; 16],
     engager: &[u8; 16],
     unacked: &[u32; 16],
     transit: &[u32; 256],
     acks: &[u32; 16],
     sends: u32,
-    closed: bool,
+    closed: u8,
     buf: &mut [u8],
     length: &mut usize,
 ) -> u8
     ensures { λ r. ⌜ WrittenAs (lentTree n root (now (active .entry)) (now (engager .entry)) (now (unacked .entry)) (now (transit .entry)) (now (acks .entry)) sends closed)
-        (now (buf .entry)) r (now (length .exit)) (now (buf .exit)) ⌝ }
+        (now (buf .entry)) r (now (length .entry)) (now (length .exit)) (now (buf .exit)) ⌝ }
 {
+    if !are_tree_flags(*active, closed) {
+        return refusal::number(Refusal::Unsound);
+    }
+    let flags = flag_bytes::tree_flags(*active);
     let tree = Tree {
         n,
         root,
-        active: *active,
+        active: flags,
         engager: *engager,
         unacked: *unacked,
         transit: *transit,
         acks: *acks,
         sends,
-        closed,
+        closed: closed == 1,
     };
     let w = tree_writer::write(tree, buf);
-    *length = written_length(w);
-    tree_text::written_number(w)
+    let Written::Length(k) = w else {
+        return tree_text::written_number(w);
+    };
+    *length = k;
+    0
 }
 
 // A tree's text read: the number of the answer; the engagers and the root where it is accepted.
 #[no_mangle]
 pub extern "C" fn tree_read(n: usize, s: &[u8], engager: &mut [u8; 16], root: &mut usize) -> u8
-    ensures { λ r. ⌜ ReadAs n (now (s .entry)) r (now (engager .exit)) (now (root .exit)) ⌝ }
+    ensures { λ r. ⌜ ReadAs n (now (s .entry)) r (now (engager .entry)) (now (root .entry)) (now (engager .exit)) (now (root .exit)) ⌝ }
 {
     let f = tree_reader::read(n, s);
     let verdict = f.verdict;
+    let Verdict::Accepted = verdict else {
+        return refusal::code(verdict);
+    };
     let e = f.engager;
     *engager = e;
     *root = f.root;
-    refusal::code(verdict)
+    0
 }

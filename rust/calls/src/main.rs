@@ -1,10 +1,16 @@
 //! Compares the proved functions, called through a static library, with the second implementation: the ring's steps of whole runs, wild
-//! states and the driver; the tree's text, written, read back and damaged; and walks the states of EWD998 for N = 3 with the proved step, against document 001's table.
+//! states and the driver; every value of each byte that stands for a truth; the tree's text, written, read back and damaged; and walks the
+//! states of EWD998 for N = 3 with the proved step, against document 001's table. What is lent to be written holds noise before each call, and
+//! a refusal must leave every byte of it.
 
+mod flags;
+mod lent;
 mod proved;
 mod texts;
 
+use lent::LentRing;
 use second::generate::Rng;
+use second::refusal::Refusal;
 use second::request::Request;
 use second::ring::{Reason, Ring, MAX_NODES};
 use second::walk::walk;
@@ -22,6 +28,7 @@ fn main() {
         "same: {} steps ({} accepted), {} wild states ({} sound), {} drives",
         tally.steps, tally.accepted, tally.wild, tally.sound, tally.drives
     );
+    flags::compare(seed);
     texts::compare(seed);
     published_table();
 }
@@ -41,7 +48,7 @@ fn one_run(seed: u64, tally: &mut Tally) {
     let mut ring = started(&mut random);
     for _ in 0..300 {
         let request = request(&ring, &mut random);
-        same_step(seed, &ring, request);
+        same_step(seed, &LentRing::of(&ring), request);
         let accepted = ring.step(request).is_ok();
         tally.steps += 1;
         tally.accepted += usize::from(accepted);
@@ -52,26 +59,26 @@ fn one_run(seed: u64, tally: &mut Tally) {
             let wild = spoiled(&ring, &mut random);
             tally.wild += 1;
             tally.sound += usize::from(wild.is_sound());
-            same_soundness(seed, &wild);
-            same_step(seed, &wild, request);
-            same_drive(seed, &wild, random.below(12) as u32);
+            same_calls(seed, &LentRing::of(&wild), request, &mut random);
         }
         if random.chance(10) {
             let limit = random.pick(&[0, 1, 2, 5, 20, 286, 1_000, 1_001, u32::MAX]);
-            same_drive(seed, &ring, limit);
+            same_drive(seed, &LentRing::of(&ring), limit, &mut random);
             tally.drives += 1;
         }
     }
+    let noise = LentRing::noise(&mut random);
+    same_calls(seed, &noise, request(&ring, &mut random), &mut random);
 }
 
-fn started(random: &mut Rng) -> Ring {
+pub fn started(random: &mut Rng) -> Ring {
     let n = random.pick(&[1, 2, 3, 5, 8, 17, MAX_NODES]);
     let flags: Vec<u8> = (0..n).map(|_| random.below(4) as u8).collect();
     Ring::start(n, &flags).expect("a start in range")
 }
 
 /// Mostly the token's own move or a step of a node in range; now and then anything.
-fn request(ring: &Ring, random: &mut Rng) -> Request {
+pub fn request(ring: &Ring, random: &mut Rng) -> Request {
     if random.chance(25) {
         if let Some(request) = ring.token_move() {
             return request;
@@ -117,11 +124,22 @@ fn spoiled(ring: &Ring, random: &mut Rng) -> Ring {
     wild
 }
 
-fn same_step(seed: u64, ring: &Ring, request: Request) {
-    let mut ours = ring.clone();
-    let expected = ours
-        .step(request)
-        .map_or_else(|refusal| refusal.number(), |()| 0);
+/// Soundness, a step and a short drive of what is lent.
+pub fn same_calls(seed: u64, ring: &LentRing, request: Request, random: &mut Rng) {
+    same_soundness(seed, ring);
+    same_step(seed, ring, request);
+    same_drive(seed, ring, random.below(12) as u32, random);
+}
+
+/// The second implementation's answer; a byte that is no truth is an unsound state.
+fn same_step(seed: u64, ring: &LentRing, request: Request) {
+    let (expected, ours) = match ring.ring() {
+        None => (Refusal::Unsound.number(), ring.clone()),
+        Some(mut next) => {
+            let told = next.step(request).map_or_else(Refusal::number, |()| 0);
+            (told, LentRing::of(&next))
+        }
+    };
     let mut theirs = ring.clone();
     let told = u32::from(proved::step(&mut theirs, request));
     if (told, &theirs) != (expected, &ours) {
@@ -132,24 +150,34 @@ fn same_step(seed: u64, ring: &Ring, request: Request) {
     }
 }
 
-fn same_soundness(seed: u64, ring: &Ring) {
-    if proved::is_sound(ring) != ring.is_sound() {
+fn same_soundness(seed: u64, ring: &LentRing) {
+    let expected = ring.ring().is_some_and(|ring| ring.is_sound());
+    if proved::is_sound(ring) != u8::from(expected) {
         fail(seed, &format!("soundness of {ring:?}"));
     }
 }
 
-fn same_drive(seed: u64, ring: &Ring, limit: u32) {
-    let mut ours = ring.clone();
-    let expected = match ours.drive(limit) {
-        Ok(drive) => (reason_number(drive.reason), drive.moves),
-        Err(refusal) => (refusal.number() as u8, 0),
+fn same_drive(seed: u64, ring: &LentRing, limit: u32, random: &mut Rng) {
+    let noise = random.word() as u32;
+    let refused = |refusal: Refusal| (refusal.number() as u8, noise, ring.clone());
+    let expected = match ring.ring() {
+        None => refused(Refusal::Unsound),
+        Some(mut next) => match next.drive(limit) {
+            Ok(drive) => (
+                reason_number(drive.reason),
+                drive.moves,
+                LentRing::of(&next),
+            ),
+            Err(refusal) => refused(refusal),
+        },
     };
     let mut theirs = ring.clone();
-    let told = proved::drive(&mut theirs, limit);
-    if (told, &theirs) != (expected, &ours) {
+    let mut moves = noise;
+    let told = proved::drive(&mut theirs, limit, &mut moves);
+    if (told, moves, &theirs) != (expected.0, expected.1, &expected.2) {
         fail(
             seed,
-            &format!("a drive of {limit} told {told:?}, expected {expected:?}, of {ring:?}"),
+            &format!("a drive of {limit} told {told} and {moves} moves, expected {expected:?}, of {ring:?}"),
         );
     }
 }
@@ -170,8 +198,9 @@ pub fn fail(seed: u64, what: &str) -> ! {
 /// Document 001: diameter 60, 1.3 million distinct states, 10.1 million generated.
 fn published_table() {
     let figures = walk(|ring, request| {
-        let mut next = ring.clone();
-        (proved::step(&mut next, request) == 0).then_some(next)
+        let mut next = LentRing::of(ring);
+        let told = proved::step(&mut next, request);
+        (told == 0).then(|| next.ring().expect("truths as bytes"))
     });
     println!(
         "EWD998, N = 3, by the proved step: diameter {}, distinct {}, generated {}",

@@ -1,21 +1,20 @@
 //! The proved functions of crates/exports, each behind a safe one.
 
+use crate::lent::{LentRing, LentTree};
 use second::request::Request;
-use second::ring::Ring;
-use second::tree::Tree;
 
 extern "C" {
     fn ring_step(
         n: usize,
-        active: *mut bool,
+        active: *mut u8,
         color: *mut u8,
         sent: *mut u32,
         received: *mut u32,
         pending: *mut u32,
         pos: *mut usize,
         q: *mut i64,
-        black: *mut bool,
-        closed: *mut bool,
+        black: *mut u8,
+        closed: *mut u8,
         kind: u8,
         i: usize,
         j: usize,
@@ -23,28 +22,28 @@ extern "C" {
 
     fn ring_is_sound(
         n: usize,
-        active: *const bool,
+        active: *const u8,
         color: *const u8,
         sent: *const u32,
         received: *const u32,
         pending: *const u32,
         pos: usize,
         q: i64,
-        black: bool,
-        closed: bool,
-    ) -> bool;
+        black: u8,
+        closed: u8,
+    ) -> u8;
 
     fn ring_drive(
         n: usize,
-        active: *const bool,
+        active: *const u8,
         color: *mut u8,
         sent: *const u32,
         received: *const u32,
         pending: *const u32,
         pos: *mut usize,
         q: *mut i64,
-        black: *mut bool,
-        closed: bool,
+        black: *mut u8,
+        closed: u8,
         limit: u32,
         moves: *mut u32,
     ) -> u8;
@@ -52,13 +51,13 @@ extern "C" {
     fn tree_write(
         n: usize,
         root: usize,
-        active: *const bool,
+        active: *const u8,
         engager: *const u8,
         unacked: *const u32,
         transit: *const u32,
         acks: *const u32,
         sends: u32,
-        closed: bool,
+        closed: u8,
         buffer: *mut u8,
         room: usize,
         length: *mut usize,
@@ -73,8 +72,8 @@ extern "C" {
     ) -> u8;
 }
 
-/// The number of a step's answer, 0 where it is accepted; the ring is then the next state.
-pub fn step(ring: &mut Ring, request: Request) -> u8 {
+/// The number of a step's answer, 0 where it is accepted; the fields are then those of the next state.
+pub fn step(ring: &mut LentRing, request: Request) -> u8 {
     let kind = u8::try_from(request.kind).expect("a kind of one byte");
     // The arrays are as long as the proved function's own, and each is lent once.
     unsafe {
@@ -85,9 +84,9 @@ pub fn step(ring: &mut Ring, request: Request) -> u8 {
             ring.sent.as_mut_ptr(),
             ring.received.as_mut_ptr(),
             ring.pending.as_mut_ptr(),
-            &mut ring.token.pos,
-            &mut ring.token.q,
-            &mut ring.token.black,
+            &mut ring.pos,
+            &mut ring.q,
+            &mut ring.black,
             &mut ring.closed,
             kind,
             request.i,
@@ -96,7 +95,8 @@ pub fn step(ring: &mut Ring, request: Request) -> u8 {
     }
 }
 
-pub fn is_sound(ring: &Ring) -> bool {
+/// 1 where the ring is sound, else 0.
+pub fn is_sound(ring: &LentRing) -> u8 {
     unsafe {
         ring_is_sound(
             ring.n,
@@ -105,18 +105,17 @@ pub fn is_sound(ring: &Ring) -> bool {
             ring.sent.as_ptr(),
             ring.received.as_ptr(),
             ring.pending.as_ptr(),
-            ring.token.pos,
-            ring.token.q,
-            ring.token.black,
+            ring.pos,
+            ring.q,
+            ring.black,
             ring.closed,
         )
     }
 }
 
-/// The number of the driver's reason (100 conclusive, 101 waiting, 102 spent, else a refusal) and its count of moves.
-pub fn drive(ring: &mut Ring, limit: u32) -> (u8, u32) {
-    let mut moves = 0;
-    let reason = unsafe {
+/// The number of the driver's reason (100 conclusive, 101 waiting, 102 spent, else a refusal); `moves` is then how many it made.
+pub fn drive(ring: &mut LentRing, limit: u32, moves: &mut u32) -> u8 {
+    unsafe {
         ring_drive(
             ring.n,
             ring.active.as_ptr(),
@@ -124,55 +123,37 @@ pub fn drive(ring: &mut Ring, limit: u32) -> (u8, u32) {
             ring.sent.as_ptr(),
             ring.received.as_ptr(),
             ring.pending.as_ptr(),
-            &mut ring.token.pos,
-            &mut ring.token.q,
-            &mut ring.token.black,
+            &mut ring.pos,
+            &mut ring.q,
+            &mut ring.black,
             ring.closed,
             limit,
-            &mut moves,
+            moves,
         )
-    };
-    (reason, moves)
+    }
 }
 
-/// The number of the writer's answer, 0 where the text is written, and its length.
-pub fn write(tree: &Tree, buffer: &mut [u8]) -> (u8, usize) {
-    let engager = tree
-        .engager
-        .map(|e| u8::try_from(e).expect("an engager of one byte"));
-    let transit = tree.in_transit.concat();
-    let mut length = 0;
-    let told = unsafe {
+/// The number of the writer's answer, 0 where the text is written; `length` is then how long it is.
+pub fn write(tree: &LentTree, buffer: &mut [u8], length: &mut usize) -> u8 {
+    unsafe {
         tree_write(
             tree.n,
             tree.root,
             tree.active.as_ptr(),
-            engager.as_ptr(),
+            tree.engager.as_ptr(),
             tree.unacked.as_ptr(),
-            transit.as_ptr(),
+            tree.transit.as_ptr(),
             tree.acks.as_ptr(),
             tree.sends,
             tree.closed,
             buffer.as_mut_ptr(),
             buffer.len(),
-            &mut length,
+            length,
         )
-    };
-    (told, length)
+    }
 }
 
-/// The number of the reader's answer, the engagers and the root.
-pub fn read(n: usize, text: &[u8]) -> (u8, [u8; 16], usize) {
-    let mut engager = [0; 16];
-    let mut root = 0;
-    let told = unsafe {
-        tree_read(
-            n,
-            text.as_ptr(),
-            text.len(),
-            engager.as_mut_ptr(),
-            &mut root,
-        )
-    };
-    (told, engager, root)
+/// The number of the reader's answer, 0 where the text is a tree's; its engagers and root are then given.
+pub fn read(n: usize, text: &[u8], engager: &mut [u8; 16], root: &mut usize) -> u8 {
+    unsafe { tree_read(n, text.as_ptr(), text.len(), engager.as_mut_ptr(), root) }
 }

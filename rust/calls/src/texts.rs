@@ -1,7 +1,9 @@
 //! The text of the tree: random trees out and back, short buffers, unsound trees, and damaged texts.
 
+use crate::lent::{bytes, LentTree};
 use crate::{fail, proved};
 use second::generate::Rng;
+use second::refusal::Refusal;
 use second::request::Request;
 use second::text;
 use second::tree::{Tree, MAX_NODES};
@@ -11,16 +13,16 @@ pub fn compare(seed: u64) {
     let (mut written, mut damaged, mut accepted) = (0, 0, 0);
     for _ in 0..20_000 {
         let tree = grown(&mut random);
-        same_text(seed, &tree, &mut random);
+        same_text(seed, &LentTree::of(&tree), &mut random);
         written += 1;
         let mut buffer = [0; 80];
         let Ok(length) = text::write(&tree, &mut buffer) else {
             continue;
         };
-        same_reading(seed, tree.n, &buffer[..length]);
+        same_reading(seed, tree.n, &buffer[..length], &mut random);
         for _ in 0..5 {
             let (n, text) = damage(tree.n, &buffer[..length], &mut random);
-            accepted += usize::from(same_reading(seed, n, &text));
+            accepted += usize::from(same_reading(seed, n, &text, &mut random));
             damaged += 1;
         }
     }
@@ -28,7 +30,7 @@ pub fn compare(seed: u64) {
 }
 
 /// A tree after random steps, now and then spoiled.
-fn grown(random: &mut Rng) -> Tree {
+pub fn grown(random: &mut Rng) -> Tree {
     let n = 1 + random.below(MAX_NODES);
     let mut tree = Tree::start(n, random.below(n)).expect("a start in range");
     for _ in 0..random.below(120) {
@@ -41,27 +43,37 @@ fn grown(random: &mut Rng) -> Tree {
     tree
 }
 
-fn same_text(seed: u64, tree: &Tree, random: &mut Rng) {
+/// The second implementation's answer; a byte that is no truth is an unsound state.
+pub fn same_text(seed: u64, tree: &LentTree, random: &mut Rng) {
     let room = random.pick(&[0, 3, 10, 40, 69, 80]);
     let mut ours: Vec<u8> = (0..room).map(|_| random.below(256) as u8).collect();
-    let mut theirs = ours.clone();
-    let expected = text::write(tree, &mut ours)
-        .map_or_else(|refusal| (refusal.number() as u8, 0), |length| (0, length));
-    let told = proved::write(tree, &mut theirs);
-    if (told, &theirs) != (expected, &ours) {
+    let noise = random.word() as usize;
+    let (mut theirs, mut length) = (ours.clone(), noise);
+    let answer = match tree.tree() {
+        None => Err(Refusal::Unsound),
+        Some(tree) => text::write(&tree, &mut ours),
+    };
+    let expected = answer.map_or_else(
+        |refusal| (refusal.number() as u8, noise),
+        |length| (0, length),
+    );
+    let told = proved::write(tree, &mut theirs, &mut length);
+    if ((told, length), &theirs) != (expected, &ours) {
         fail(
             seed,
-            &format!("writing told {told:?}, expected {expected:?}, of {tree:?}"),
+            &format!("writing told {told} and {length}, expected {expected:?}, of {tree:?}"),
         );
     }
 }
 
 /// Whether the text is accepted.
-fn same_reading(seed: u64, n: usize, text: &[u8]) -> bool {
-    let (told, engager, root) = proved::read(n, text);
+fn same_reading(seed: u64, n: usize, text: &[u8], random: &mut Rng) -> bool {
+    let noise: ([u8; MAX_NODES], usize) = (bytes(random), random.word() as usize);
+    let (mut engager, mut root) = noise;
+    let told = proved::read(n, text, &mut engager, &mut root);
     let same = match text::read(n, text) {
         Ok(found) => told == 0 && root == found.root && engager.map(usize::from) == found.engager,
-        Err(refusal) => u32::from(told) == refusal.number(),
+        Err(refusal) => u32::from(told) == refusal.number() && (engager, root) == noise,
     };
     if !same {
         fail(

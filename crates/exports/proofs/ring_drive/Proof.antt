@@ -1,15 +1,25 @@
-use borrow.Author.Needs.{needs}
-use mathlib.Core.Path.{_∙_, _≡_, ap, sym}
+use Rattle.laws.proofs.Tests.{told-false, told-true}
+use Rattle.ring.specs.View.{driven, state}
+use Rattle.exports.specs.Lent.{flagsTest}
+use Rattle.exports.proofs.Laws.{drive-unflagged, drive-refused, drive-accepted}
 use mir.Facts.{toZ-ofZ}
 use mir.Syntax.{w64}
 use mir.Val.{SFits}
-use Rattle.ring.specs.View.{driven}
-use Rattle.ring_rules.proofs.Fields.{drive-keeps, unmoved}
-use Rattle.ring_rules.specs.Driver.{Driven, driveOf, reasonNumber}
-use Rattle.ring_rules.specs.State.{State}
-use Rattle.exports.specs.Lent.{lent}
+use mathlib.Core.Path.{_∙_}
+use mathlib.Core.Path.{refl}
+use borrow.Author.Needs.{needs, sfits-of}
 use Rattle.exports.proofs.ring_drive.Statement.{statement}
 use Rattle.exports.proofs.ring_drive.Tie as tie
+
+are-flags-requires : tie.Need-are-flags-requires
+are-flags-requires c κs = search needs
+
+number-requires : tie.Need-number-requires
+number-requires c κs = search needs
+
+returns : tie.Need-returns
+unfolding flagsTest
+returns c = drive-unflagged (told-false (c .before .before .are-flags .ensures) (c .before .if1 .taken)) (c .number .ensures)
 
 gathered-requires : tie.Need-gathered-requires
 gathered-requires c κs = search needs
@@ -17,29 +27,64 @@ gathered-requires c κs = search needs
 drive-requires : tie.Need-drive-requires
 drive-requires c κs = search needs
 
+reason-verdict-requires : tie.Need-reason-verdict-requires
+reason-verdict-requires c κs = search needs
+
+enum-told : tie.Need-enum-told
+enum-told c = search needs
+
+enum-told-2 : tie.Need-enum-told-2
+enum-told-2 c = search needs
+
+code-requires : tie.Need-code-requires
+code-requires c κs = search needs
+
+returns-2 : tie.Need-returns-2
+unfolding flagsTest
+returns-2 c = let at-verdict = c .before .before .before in
+    let at-drive = at-verdict .before in
+    let at-flags = at-drive .before .before .before .before .before .before .before .before .before .before in
+    let start = at-flags .before .before .before in
+    let f : SFits w64 (start .args .q .now) = search needs in
+    drive-refused (state (at-drive .before .gathered .result)) (driven (at-drive .drive .result)) (at-verdict .reason-verdict .result)
+    (at-drive .before .gathered .ensures ∙ rw (toZ-ofZ f)) (at-drive .drive .ensures)
+    (told-true (at-flags .are-flags .ensures) (at-drive .before .before .before .before .before .before .before .before .before .if1 .left)) (at-verdict .reason-verdict .ensures) (c .before .enum-told2 .given .1)
+    (c .code .ensures)
+
+byte-requires : tie.Need-byte-requires
+byte-requires c κs = search needs
+
 reason-number-requires : tie.Need-reason-number-requires
 reason-number-requires c κs = search needs
 
-returns : tie.Need-returns
-returns c =
-    let f : SFits w64
-    (c .before .before .before .before .before .before .before .before .before .before .before .before .before .args .q .now) = search needs in
-    let g : SFits w64 (c .before .before .before .before .drive .result .ring .q) = search needs in
-    let at-drive = c .before .before .before .before in
-    let at-gathered = at-drive .before in
-    let start = at-gathered .before .before .before .before .before .before .before .before in
-    let r =
-    lent (start .args .n) (start .args .active .now) (start .args .color .now) (start .args .sent .now) (start .args .received .now)
-    (start .args .pending .now) (start .args .pos .now) (start .args .q .now) (start .args .black .now) (start .args .closed) in
-    let e : driven (at-drive .drive .result) ≡ driveOf r (start .args .limit) =
-    at-drive .drive .ensures ∙ ap (λ (s : State). driveOf s (start .args .limit)) (at-gathered .gathered .ensures ∙ rw (toZ-ofZ f)) in
-    let k : unmoved r ≡ unmoved (driveOf r (start .args .limit) .state) = sym (drive-keeps r (start .args .limit)) in (
-      c .reason-number .ensures ∙ ap (λ (a : Driven). reasonNumber (a .reason)) e,
-      ap (λ (a : Driven). a .moves) e,
-      rw (toZ-ofZ g)
-          (λ x. lent (k x .0) (k x .1) (e x .state .color) (k x .2) (k x .3) (k x .4) (e x .state .pos) (e x .state .q) (e x .state .black) (k x .5)),
-    )
+-- q is the eighth of the fields that `struct-told` tells of
+returns-3 : tie.Need-returns-3
+unfolding flagsTest
+returns-3 c = let at-verdict = c .before .before .before .before .before .before .before in
+    let at-drive = at-verdict .before in
+    let at-flags = at-drive .before .before .before .before .before .before .before .before .before .before in
+    let start = at-flags .before .before .before in
+    let f : SFits w64 (start .args .q .now) = search needs in
+    let g : SFits w64 (at-drive .drive .result .ring .q) = sfits-of (c .before .before .struct-told .given .1 .1 .1 .1 .1 .1 .1 .0 .1) in
+    drive-accepted (state (at-drive .before .gathered .result)) (driven (at-drive .drive .result)) (at-verdict .reason-verdict .result)
+    (at-drive .before .gathered .ensures ∙ rw (toZ-ofZ f)) (at-drive .drive .ensures)
+    (told-true (at-flags .are-flags .ensures) (at-drive .before .before .before .before .before .before .before .before .before .if1 .left)) (at-verdict .reason-verdict .ensures) (c .before .before .before .before .before .enum-told .given .1)
+    (c .reason-number .ensures) refl (rw (toZ-ofZ g, c .before .byte .ensures))
 
 pub ring-drive-spec : {M : Type 1} → statement M
 ring-drive-spec =
-    tie.close (tie.spec gathered-requires drive-requires reason-number-requires returns)
+    tie.close
+    (tie.spec
+    are-flags-requires
+    number-requires
+    returns
+    gathered-requires
+    drive-requires
+    reason-verdict-requires
+    enum-told
+    enum-told-2
+    code-requires
+    returns-2
+    byte-requires
+    reason-number-requires
+    returns-3)

@@ -1,11 +1,17 @@
-use borrow.Author.Needs.{needs}
-use mathlib.Core.Path.{_∙_, ap}
 use mir.Facts.{toZ-ofZ}
 use mir.Syntax.{w64}
 use mir.Val.{SFits}
+use mathlib.Core.Bool.{_&&_}
+use mathlib.Core.Path.{_∙_, ap}
+use Rattle.flag_bytes.specs.Flags.{byteOf}
 use Rattle.ring_rules.specs.Soundness.{soundTest}
+use Rattle.exports.specs.Lent.{flagsTest}
+use borrow.Author.Needs.{needs}
 use Rattle.exports.proofs.ring_is_sound.Statement.{statement}
 use Rattle.exports.proofs.ring_is_sound.Tie as tie
+
+are-flags-requires : tie.Need-are-flags-requires
+are-flags-requires c κs = search needs
 
 gathered-requires : tie.Need-gathered-requires
 gathered-requires c κs = search needs
@@ -13,9 +19,17 @@ gathered-requires c κs = search needs
 is-sound-requires : tie.Need-is-sound-requires
 is-sound-requires c κs = search needs
 
+byte-requires : tie.Need-byte-requires
+byte-requires c κs = search needs
+
 returns : tie.Need-returns
-returns c = let f : SFits w64 (c .before .before .before .before .before .before .before .args .q) = search needs in
-    c .is-sound .ensures ∙ ap soundTest (c .before .gathered .ensures) ∙ rw (toZ-ofZ f)
+unfolding flagsTest
+returns c = let start = c .before .before .before .before .before .before .before .before .before .before in
+    let f : SFits w64 (start .args .q) = search needs in
+    let e = c .before .is-sound .ensures ∙ ap soundTest (c .before .before .gathered .ensures) in
+    c .byte .ensures ∙ (λ x. byteOf (c .before .before .before .before .before .before .before .before .are-flags .ensures x && e x)) ∙ rw (toZ-ofZ f)
 
 pub ring-is-sound-spec : {M : Type 1} → statement M
-ring-is-sound-spec = tie.close (tie.spec gathered-requires is-sound-requires returns)
+ring-is-sound-spec =
+    tie.close
+    (tie.spec are-flags-requires gathered-requires is-sound-requires byte-requires returns)

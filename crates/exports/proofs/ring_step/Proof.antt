@@ -1,16 +1,24 @@
-use borrow.Author.Needs.{needs}
-use mathlib.Core.Path.{_∙_, _≡_, ap, sym}
+use Rattle.laws.proofs.Tests.{told-false, told-true}
+use Rattle.ring.specs.View.{answer, state}
+use Rattle.exports.specs.Lent.{flagsTest}
+use Rattle.exports.proofs.Laws.{step-unflagged, step-refused, step-accepted}
 use mir.Facts.{toZ-ofZ}
 use mir.Syntax.{w64}
 use mir.Val.{SFits}
-use Rattle.refusal.specs.Table.{codeOf}
-use Rattle.ring.specs.View.{answer}
-use Rattle.ring_rules.proofs.Fields.{nodes-kept}
-use Rattle.ring_rules.specs.Answers.{Answer, stepOf}
-use Rattle.ring_rules.specs.State.{State}
-use Rattle.exports.specs.Lent.{lent}
+use mathlib.Core.Path.{_∙_}
+use borrow.Author.Needs.{needs, sfits-of}
 use Rattle.exports.proofs.ring_step.Statement.{statement}
 use Rattle.exports.proofs.ring_step.Tie as tie
+
+are-flags-requires : tie.Need-are-flags-requires
+are-flags-requires c κs = search needs
+
+number-requires : tie.Need-number-requires
+number-requires c κs = search needs
+
+returns : tie.Need-returns
+unfolding flagsTest
+returns c = step-unflagged (told-false (c .before .before .are-flags .ensures) (c .before .if1 .taken)) (c .number .ensures)
 
 gathered-requires : tie.Need-gathered-requires
 gathered-requires c κs = search needs
@@ -18,30 +26,61 @@ gathered-requires c κs = search needs
 step-requires : tie.Need-step-requires
 step-requires c κs = search needs
 
+enum-told : tie.Need-enum-told
+enum-told c = search needs
+
+enum-told-2 : tie.Need-enum-told-2
+enum-told-2 c = search needs
+
 code-requires : tie.Need-code-requires
 code-requires c κs = search needs
 
-returns : tie.Need-returns
-returns c =
-    let f : SFits w64
-    (c .before .before .before .before .before .before .before .before .before .before .before .before .before .before .before .before .before .args .q .now) =
-    search needs in
-    let g : SFits w64 (c .before .before .before .before .before .before .before .before .step .result .ring .q) = search needs in
-    let at-step = c .before .before .before .before .before .before .before .before in
-    let at-gathered = at-step .before in
-    let start = at-gathered .before .before .before .before .before .before .before .before in
-    let r =
-    lent (start .args .n) (start .args .active .now) (start .args .color .now) (start .args .sent .now) (start .args .received .now)
-    (start .args .pending .now) (start .args .pos .now) (start .args .q .now) (start .args .black .now) (start .args .closed .now) in
-    let e : answer (at-step .step .result) ≡ stepOf r (start .args .kind) (start .args .i) (start .args .j) =
-    at-step .step .ensures
-    ∙ ap (λ (s : State). stepOf s (start .args .kind) (start .args .i) (start .args .j)) (at-gathered .gathered .ensures ∙ rw (toZ-ofZ f)) in
-    let k : start .args .n ≡ stepOf r (start .args .kind) (start .args .i) (start .args .j) .state .n = sym (nodes-kept r (start .args .kind) (start .args .i) (start .args .j)) in (
-      c .code .ensures ∙ ap (λ (a : Answer). codeOf (a .verdict)) e,
-      rw (toZ-ofZ g)
-          (λ x. lent (k x) (e x .state .active) (e x .state .color) (e x .state .sent) (e x .state .received) (e x .state .pending)
-          (e x .state .pos) (e x .state .q) (e x .state .black) (e x .state .closed)),
-    )
+returns-2 : tie.Need-returns-2
+unfolding flagsTest
+returns-2 c = let at-step = c .before .before .before in
+    let at-flags = at-step .before .before .before .before .before .before .before .before .before .before in
+    let start = at-flags .before .before .before .before in
+    let f : SFits w64 (start .args .q .now) = search needs in
+    step-refused (state (at-step .before .gathered .result)) (answer (at-step .step .result))
+    (at-step .before .gathered .ensures ∙ rw (toZ-ofZ f)) (at-step .step .ensures)
+    (told-true (at-flags .are-flags .ensures) (at-step .before .before .before .before .before .before .before .before .before .if1 .left)) (c .before .enum-told2 .given .1) (c .code .ensures)
+
+ring-bytes-requires : tie.Need-ring-bytes-requires
+ring-bytes-requires c κs = search needs
+
+byte-requires : tie.Need-byte-requires
+byte-requires c κs = search needs
+
+byte-requires-2 : tie.Need-byte-requires-2
+byte-requires-2 c κs = search needs
+
+-- q is the eighth of the fields that `struct-told` tells of
+returns-3 : tie.Need-returns-3
+unfolding flagsTest
+returns-3 c = let at-step = c .before .before .before .before .before .before .before .before .before .before .before .before in
+    let at-flags = at-step .before .before .before .before .before .before .before .before .before .before in
+    let start = at-flags .before .before .before .before in
+    let f : SFits w64 (start .args .q .now) = search needs in
+    let g : SFits w64 (at-step .step .result .ring .q) = sfits-of (c .before .before .struct-told .given .1 .1 .1 .1 .1 .1 .1 .0 .1) in
+    step-accepted (state (at-step .before .gathered .result)) (answer (at-step .step .result))
+    (at-step .before .gathered .ensures ∙ rw (toZ-ofZ f)) (at-step .step .ensures)
+    (told-true (at-flags .are-flags .ensures) (at-step .before .before .before .before .before .before .before .before .before .if1 .left)) (c .before .before .before .before .before .before .before .before .before .before .enum-told .given .1)
+    (rw (toZ-ofZ g, c .before .before .before .before .before .before .before .ring-bytes .ensures, c .before .byte .ensures, c .byte2 .ensures))
 
 pub ring-step-spec : {M : Type 1} → statement M
-ring-step-spec = tie.close (tie.spec gathered-requires step-requires code-requires returns)
+ring-step-spec =
+    tie.close
+    (tie.spec
+    are-flags-requires
+    number-requires
+    returns
+    gathered-requires
+    step-requires
+    enum-told
+    enum-told-2
+    code-requires
+    returns-2
+    ring-bytes-requires
+    byte-requires
+    byte-requires-2
+    returns-3)

@@ -1,23 +1,30 @@
+use Rattle.exports.proofs.Laws.{read-as}
 use borrow.Author.Needs.{needs}
-use mathlib.Core.Path.{_∙_, ap}
-use Rattle.refusal.specs.Table.{codeOf}
-use Rattle.tree_text.specs.declared.Found.{Found}
 use Rattle.exports.proofs.tree_read.Statement.{statement}
 use Rattle.exports.proofs.tree_read.Tie as tie
 
 read-requires : tie.Need-read-requires
 read-requires c κs = search needs
 
+enum-told : tie.Need-enum-told
+enum-told c = search needs
+
+enum-told-2 : tie.Need-enum-told-2
+enum-told-2 c = search needs
+
 code-requires : tie.Need-code-requires
 code-requires c κs = search needs
 
 returns : tie.Need-returns
-returns c = (
-  c .code .ensures ∙ ap (λ (f : Found). codeOf (f .verdict)) (c .before .before .read .ensures),
-  ap (λ (f : Found). f .engager)
-      (c .before .before .read .ensures),
-  ap (λ (f : Found). f .root) (c .before .before .read .ensures),
-)
+returns c = let at-read = c .before .before .before in
+    let v = c .before .enum-told2 .given .1 in
+    read-as (at-read .read .result) (at-read .read .ensures) (c .code .ensures) (rw v) (rw v)
+
+returns-2 : tie.Need-returns-2
+returns-2 c = let at-read = c .before .before .before in
+    let v = c .before .enum-told .given .1 in
+    read-as (at-read .read .result) (at-read .read .ensures) (rw v) (rw v) (rw v)
 
 pub tree-read-spec : {M : Type 1} → statement M
-tree-read-spec = tie.close (tie.spec read-requires code-requires returns)
+tree-read-spec =
+    tie.close (tie.spec read-requires enum-told enum-told-2 code-requires returns returns-2)

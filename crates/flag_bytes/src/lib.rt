@@ -1,0 +1,72 @@
+// Truths that are lent as bytes: 1 for true, 0 for false. A byte above 1 is no flag.
+ghost use mathlib.Core.Path.{_≡_};
+ghost use lib.ListN.{length};
+ghost use Rattle.flag_bytes.specs.Flags.{areFlags, flagsOf, byteOf, bytesOf};
+
+// Is each byte a flag?
+pub fn are_flags(s: &[u8]) -> bool
+    ensures { λ r. ⌜ r ≡ areFlags (now (s .entry)) ⌝ }
+{
+    let mut ok = true;
+    let mut i = 0;
+    while i < s.len() {
+        ok = ok & (s[i] <= 1);
+        i += 1;
+    }
+    ok
+}
+
+// The truths of a column of bytes.
+fn put_flags(s: &[u8], out: &mut [bool])
+    requires { ⌜ length (now out) ≡ length (now s) ⌝ }
+    ensures { λ _. ⌜ now (out .exit) ≡ flagsOf (now (s .entry)) ⌝ }
+{
+    let mut i = 0;
+    while i < s.len() {
+        out[i] = s[i] == 1;
+        i += 1;
+    }
+}
+
+// 1 for true, 0 for false.
+pub fn byte(b: bool) -> u8
+    ensures { λ r. ⌜ r ≡ byteOf b ⌝ }
+{
+    if b { 1 } else { 0 }
+}
+
+// The bytes of a column of truths.
+fn put_bytes(s: &[bool], out: &mut [u8])
+    requires { ⌜ length (now out) ≡ length (now s) ⌝ }
+    ensures { λ _. ⌜ now (out .exit) ≡ bytesOf (now (s .entry)) ⌝ }
+{
+    let mut i = 0;
+    while i < s.len() {
+        out[i] = byte(s[i]);
+        i += 1;
+    }
+}
+
+pub fn ring_flags(s: [u8; 96]) -> [bool; 96]
+    ensures { λ r. ⌜ r ≡ flagsOf s ⌝ }
+{
+    let mut out = [false; 96];
+    put_flags(&s, &mut out);
+    out
+}
+
+pub fn ring_bytes(s: [bool; 96]) -> [u8; 96]
+    ensures { λ r. ⌜ r ≡ bytesOf s ⌝ }
+{
+    let mut out = [0u8; 96];
+    put_bytes(&s, &mut out);
+    out
+}
+
+pub fn tree_flags(s: [u8; 16]) -> [bool; 16]
+    ensures { λ r. ⌜ r ≡ flagsOf s ⌝ }
+{
+    let mut out = [false; 16];
+    put_flags(&s, &mut out);
+    out
+}
