@@ -11,6 +11,7 @@ use Rattle.color.specs.Colors.{blackened, isBlack, whitened}
 use Rattle.decimal.specs.Bytes.{bytes}
 use Rattle.laws.specs.Places.{allTo}
 use Rattle.log_rules.specs.Output.{outputOf}
+use Rattle.refusal.specs.Counts.{countOf}
 use Rattle.refusal.specs.Table.{codeOf, numberOf}
 use Rattle.refusal.specs.declared.Refusal.{Refusal}
 use Rattle.ring_rules.specs.Driver.{driveOf, reasonNumber}
@@ -196,12 +197,21 @@ abbrev pub treePlaces : List TreeTest → List ℕ
 treePlaces [] = []
 treePlaces (c ∷ cs) = treePlace c ∷ treePlaces cs
 
--- the numbers that a state handed in gets: from a step and from the driver; from a step and from the writer
+-- the numbers that a state handed in gets: from a step, from the driver and where its messages in transit are asked for; from a step, from
+-- the writer and where its acknowledgements are asked for
 abbrev pub ringTold : ring.State → List ℕ
-ringTold r = codeOf (ringRuns.ring .verdict r ringRequests.probe) ∷ reasonNumber (driveOf r 0 .reason) ∷ []
+ringTold r =
+    codeOf (ringRuns.ring .verdict r ringRequests.probe)
+    ∷ reasonNumber (driveOf r 0 .reason)
+    ∷ codeOf (countOf (ringSound.soundTest r) (ring.inTransit r) .verdict)
+    ∷ []
 
 abbrev pub treeTold : tree.State → List ℕ
-treeTold t = codeOf (treeRuns.tree .verdict t treeRequests.announce) ∷ writtenNumber (writtenOf t (replicate 100 0)) ∷ []
+treeTold t =
+    codeOf (treeRuns.tree .verdict t treeRequests.announce)
+    ∷ writtenNumber (writtenOf t (replicate 100 0))
+    ∷ codeOf (countOf (treeSound.soundTest t) (acksTotal t) .verdict)
+    ∷ []
 
 abbrev pub isRingSound : ring.State → Bool
 isRingSound r = failAt [] 0 (ringTests r) && not (among 3 (ringTold r))
@@ -252,9 +262,9 @@ passes (quiet-with t xs a e) =
 passes (drives r m e k) = drivesTo r m e k
 passes (ring-sound r) = isRingSound r
 passes (sound-by c r) = isRingSound r && failAt (others c) 0 (safraTests r)
-passes (ring-unsound c r) = failAt (ringPlace c ∷ []) 0 (ringTests r) && sameList (ringTold r) (3 ∷ 3 ∷ [])
+passes (ring-unsound c r) = failAt (ringPlace c ∷ []) 0 (ringTests r) && sameList (ringTold r) (3 ∷ 3 ∷ 3 ∷ [])
 passes (tree-sound t) = failAt [] 0 (treeTests t) && not (among 3 (treeTold t))
-passes (tree-unsound cs t) = failAt (treePlaces cs) 0 (treeTests t) && sameList (treeTold t) (3 ∷ 3 ∷ [])
+passes (tree-unsound cs t) = failAt (treePlaces cs) 0 (treeTests t) && sameList (treeTold t) (3 ∷ 3 ∷ 3 ∷ [])
 passes (writes t size k) = eqb (writtenNumber (writtenOf t (replicate size 0))) k
 passes (text n l root s) =
     sameList (textOf (none-after l) root) (bytes s)
