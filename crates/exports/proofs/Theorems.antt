@@ -69,7 +69,7 @@ refusals-keep =
 
 flags-fail : {l : Lent} → NoFlag l → flagsTest l ≡ false
 unfolding flagsTest
-flags-fail {l} (inActive k h) = ap (λ (b : Bool). b && (isFlag (l .black) && isFlag (l .closed))) (no-flags (l .active) k h)
+flags-fail {l} (inActive k h) = rw (no-flags (l .active) k h)
 flags-fail {l} (inBlack h) =
     ap (λ (b : Bool). areFlags (l .active) && (b && isFlag (l .closed))) (no-flag (l .black) h) ∙ and-false (areFlags (l .active))
 flags-fail {l} (inClosed h) =
@@ -78,7 +78,7 @@ flags-fail {l} (inClosed h) =
 
 tree-flags-fail : {l : LentTree} → NoTreeFlag l → treeFlagsTest l ≡ false
 unfolding treeFlagsTest
-tree-flags-fail {l} (inActive k h) = ap (λ (b : Bool). b && isFlag (l .closed)) (no-flags (l .active) k h)
+tree-flags-fail {l} (inActive k h) = rw (no-flags (l .active) k h)
 tree-flags-fail {l} (inClosed h) = ap (λ (b : Bool). areFlags (l .active) && b) (no-flag (l .closed) h) ∙ and-false (areFlags (l .active))
 
 pub bytes-judged : BytesJudged

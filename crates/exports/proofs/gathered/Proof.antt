@@ -6,7 +6,7 @@ use Rattle.exports.proofs.gathered.Statement.{statement}
 use Rattle.exports.proofs.gathered.Tie as tie
 
 ring-flags-requires : tie.Need-ring-flags-requires
-ring-flags-requires c κs = search needs
+ring-flags-requires c κs = tt
 
 returns : tie.Need-returns
 returns c = let f : SFits w64 (c .before .args .q) = search needs in

@@ -12,23 +12,23 @@ use Rattle.exports.proofs.ring_drive.Statement.{statement}
 use Rattle.exports.proofs.ring_drive.Tie as tie
 
 are-flags-requires : tie.Need-are-flags-requires
-are-flags-requires c κs = search needs
+are-flags-requires c κs = tt
 
 number-requires : tie.Need-number-requires
-number-requires c κs = search needs
+number-requires c κs = tt
 
 returns : tie.Need-returns
 unfolding flagsTest
 returns c = drive-unflagged (told-false (c .before .before .are-flags .ensures) (c .before .if1 .taken)) (c .number .ensures)
 
 gathered-requires : tie.Need-gathered-requires
-gathered-requires c κs = search needs
+gathered-requires c κs = tt
 
 drive-requires : tie.Need-drive-requires
-drive-requires c κs = search needs
+drive-requires c κs = tt
 
 reason-verdict-requires : tie.Need-reason-verdict-requires
-reason-verdict-requires c κs = search needs
+reason-verdict-requires c κs = tt
 
 enum-told : tie.Need-enum-told
 enum-told c = search needs
@@ -37,7 +37,7 @@ enum-told-2 : tie.Need-enum-told-2
 enum-told-2 c = search needs
 
 code-requires : tie.Need-code-requires
-code-requires c κs = search needs
+code-requires c κs = tt
 
 returns-2 : tie.Need-returns-2
 unfolding flagsTest
@@ -52,10 +52,10 @@ returns-2 c = let at-verdict = c .before .before .before in
     (c .code .ensures)
 
 byte-requires : tie.Need-byte-requires
-byte-requires c κs = search needs
+byte-requires c κs = tt
 
 reason-number-requires : tie.Need-reason-number-requires
-reason-number-requires c κs = search needs
+reason-number-requires c κs = tt
 
 -- q is the eighth of the fields that `struct-told` tells of
 returns-3 : tie.Need-returns-3

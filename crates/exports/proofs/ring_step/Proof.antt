@@ -11,20 +11,20 @@ use Rattle.exports.proofs.ring_step.Statement.{statement}
 use Rattle.exports.proofs.ring_step.Tie as tie
 
 are-flags-requires : tie.Need-are-flags-requires
-are-flags-requires c κs = search needs
+are-flags-requires c κs = tt
 
 number-requires : tie.Need-number-requires
-number-requires c κs = search needs
+number-requires c κs = tt
 
 returns : tie.Need-returns
 unfolding flagsTest
 returns c = step-unflagged (told-false (c .before .before .are-flags .ensures) (c .before .if1 .taken)) (c .number .ensures)
 
 gathered-requires : tie.Need-gathered-requires
-gathered-requires c κs = search needs
+gathered-requires c κs = tt
 
 step-requires : tie.Need-step-requires
-step-requires c κs = search needs
+step-requires c κs = tt
 
 enum-told : tie.Need-enum-told
 enum-told c = search needs
@@ -33,7 +33,7 @@ enum-told-2 : tie.Need-enum-told-2
 enum-told-2 c = search needs
 
 code-requires : tie.Need-code-requires
-code-requires c κs = search needs
+code-requires c κs = tt
 
 returns-2 : tie.Need-returns-2
 unfolding flagsTest
@@ -46,13 +46,13 @@ returns-2 c = let at-step = c .before .before .before in
     (told-true (at-flags .are-flags .ensures) (at-step .before .before .before .before .before .before .before .before .before .if1 .left)) (c .before .enum-told2 .given .1) (c .code .ensures)
 
 ring-bytes-requires : tie.Need-ring-bytes-requires
-ring-bytes-requires c κs = search needs
+ring-bytes-requires c κs = tt
 
 byte-requires : tie.Need-byte-requires
-byte-requires c κs = search needs
+byte-requires c κs = tt
 
 byte-requires-2 : tie.Need-byte-requires-2
-byte-requires-2 c κs = search needs
+byte-requires-2 c κs = tt
 
 -- q is the eighth of the fields that `struct-told` tells of
 returns-3 : tie.Need-returns-3

@@ -7,20 +7,20 @@ use Rattle.exports.proofs.tree_write.Statement.{statement}
 use Rattle.exports.proofs.tree_write.Tie as tie
 
 are-tree-flags-requires : tie.Need-are-tree-flags-requires
-are-tree-flags-requires c κs = search needs
+are-tree-flags-requires c κs = tt
 
 number-requires : tie.Need-number-requires
-number-requires c κs = search needs
+number-requires c κs = tt
 
 returns : tie.Need-returns
 unfolding treeFlagsTest
 returns c = write-unflagged (told-false (c .before .before .are-tree-flags .ensures) (c .before .if1 .taken)) (c .number .ensures)
 
 tree-flags-requires : tie.Need-tree-flags-requires
-tree-flags-requires c κs = search needs
+tree-flags-requires c κs = tt
 
 write-requires : tie.Need-write-requires
-write-requires c κs = search needs
+write-requires c κs = tt
 
 enum-known-w : tie.Need-enum-known-w
 enum-known-w c = search needs
@@ -29,7 +29,7 @@ enum-told : tie.Need-enum-told
 enum-told c = search needs
 
 written-number-requires : tie.Need-written-number-requires
-written-number-requires c κs = search needs
+written-number-requires c κs = tt
 
 same-length : tie.Need-same-length
 same-length c = search needs
