@@ -3,8 +3,6 @@ use Prim.Native.Nat.{ℕ}
 use mathlib.Core.Bool.{_&&_, false, true}
 use mathlib.Core.List.{List}
 use mathlib.Core.Path.{_∙_, _≡_, ap, refl, sym}
-use Rattle.exports.specs.Lent.{DrivenTo, Lent, SteppedTo, driveReason, flagsTest, lent, lentOf, reasonVerdict, stateOf, stepVerdict}
-use Rattle.exports.specs.LentTree.{LentTree, ReadAs, WrittenAs, lengthAfter, treeFlagsTest, treeOf}
 use Rattle.flag_bytes.proofs.Laws.{flag-back, flags-back}
 use Rattle.flag_bytes.specs.Flags.{areFlags, byteOf, bytesOf, isFlag}
 use Rattle.laws.proofs.Tests.{both}
@@ -24,6 +22,8 @@ use Rattle.tree_text.specs.Read.{readOf}
 use Rattle.tree_text.specs.Write.{bufferOf, writtenNumber, writtenOf}
 use Rattle.tree_text.specs.declared.Found.{Found}
 use Rattle.tree_text.specs.declared.Written.{Written}
+use Rattle.exports.specs.Lent.{DrivenTo, Lent, SteppedTo, driveReason, flagsTest, lent, lentOf, reasonVerdict, stateOf, stepVerdict}
+use Rattle.exports.specs.LentTree.{LentTree, ReadAs, WrittenAs, lengthAfter, treeFlagsTest, treeOf}
 
 -- ---- a step
 
@@ -133,11 +133,14 @@ pub write-unflagged :
 write-unflagged f t = record { told = rw f t; long = rw f; bytes = rw f }
 
 pub write-flagged :
-    {l : LentTree} {buf buf′ : List ℕ} {number length length′ : ℕ} (w : Written) → treeFlagsTest l ≡ true → w ≡ writtenOf (treeOf l) buf
-    → number ≡ writtenNumber w → length′ ≡ lengthAfter w length → buf′ ≡ bufferOf (treeOf l) buf → WrittenAs l buf number length length′ buf′
+    {l : LentTree} {buf buf′ : List ℕ} {number length length′ : ℕ} (w : Written) → treeFlagsTest l ≡ true
+    → w ≡ writtenOf (treeOf l) buf
+    → number ≡ writtenNumber w → length′ ≡ lengthAfter w length → buf′ ≡ bufferOf (treeOf l) buf
+    → WrittenAs l buf number length length′ buf′
 write-flagged w f e t h b = record { told = rw (f, ← e) t; long = rw (f, ← e) h; bytes = rw f b }
 
 pub read-as :
     {n number root root′ : ℕ} {s engager engager′ : List ℕ} (f : Found) → f ≡ readOf n s → number ≡ codeOf (f .verdict)
-    → engager′ ≡ settle (f .verdict) (f .engager) engager → root′ ≡ settle (f .verdict) (f .root) root → ReadAs n s number engager root engager′ root′
+    → engager′ ≡ settle (f .verdict) (f .engager) engager → root′ ≡ settle (f .verdict) (f .root) root
+    → ReadAs n s number engager root engager′ root′
 read-as f e t h r = record { told = rw (← e) t; engagers = rw (← e) h; outermost = rw (← e) r }

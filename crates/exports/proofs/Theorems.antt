@@ -4,9 +4,6 @@ use mathlib.Core.Bool.{Bool, _&&_, and-false, cond, false, true}
 use mathlib.Core.List.{List}
 use mathlib.Core.Path.{_∙_, _≡_, ap, refl}
 use native.Mathlib.Omega.{arith}
-use Rattle.exports.specs.Lent.{Lent, driveReason, driveVerdict, flagsTest, reasonVerdict, stepVerdict}
-use Rattle.exports.specs.LentTree.{LentTree, WrittenAs, lengthAfter, treeFlagsTest, treeOf}
-use Rattle.exports.specs.Theorems.{BytesJudged, NoFlag, NoTreeFlag, RefusalsKeep, inActive, inBlack, inClosed}
 use Rattle.flag_bytes.proofs.Laws.{no-flag, no-flags}
 use Rattle.flag_bytes.specs.Flags.{areFlags, isFlag}
 use Rattle.refusal.proofs.Table.{not-both}
@@ -20,6 +17,9 @@ use Rattle.ring_rules.specs.declared.Reason.the-variants.{Conclusive, Spent, St
 use Rattle.tree_text.specs.Read.{readOf}
 use Rattle.tree_text.specs.Write.{bufferOf, told, writeVerdict, writtenNumber, writtenOf}
 use Rattle.tree_text.specs.declared.Written.the-variants.{NotWritten}
+use Rattle.exports.specs.Lent.{Lent, driveReason, driveVerdict, flagsTest, reasonVerdict, stepVerdict}
+use Rattle.exports.specs.LentTree.{LentTree, WrittenAs, lengthAfter, treeFlagsTest, treeOf}
+use Rattle.exports.specs.Theorems.{BytesJudged, NoFlag, NoTreeFlag, RefusalsKeep, inActive, inBlack, inClosed}
 
 -- ---- a refusal keeps
 

@@ -8,8 +8,8 @@ use mathlib.Core.List.{List, [], _++_, _∷_, map}
 use mathlib.Core.Path.{_∙_, _≡_, ap, refl, sym}
 use native.Mathlib.Numerals.{add-one}
 use native.Mathlib.Omega.{arith}
-use Rattle.flag_bytes.specs.Flags.{areFlags, byteOf, bytesOf, flagOf, flagsOf, isFlag}
 use Rattle.laws.proofs.Tests.{both}
+use Rattle.flag_bytes.specs.Flags.{areFlags, byteOf, bytesOf, flagOf, flagsOf, isFlag}
 
 map-last : {A B : Type 0} (f : A → B) (l : List A) (x : A) → map f (l ++ (x ∷ [])) ≡ map f l ++ (f x ∷ [])
 map-last f [] x = refl

@@ -1,7 +1,7 @@
+use borrow.Author.Needs.{needs}
 use mathlib.Core.Bool.{Bool, _&&_}
 use mathlib.Core.Path.{ap}
 use Rattle.flag_bytes.specs.Flags.{isFlag}
-use borrow.Author.Needs.{needs}
 use Rattle.exports.proofs.are_flags.Statement.{statement}
 use Rattle.exports.proofs.are_flags.Tie as tie
 

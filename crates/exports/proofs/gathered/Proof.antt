@@ -1,7 +1,7 @@
+use borrow.Author.Needs.{needs}
 use mir.Facts.{toZ-ofZ}
 use mir.Syntax.{w64}
 use mir.Val.{SFits}
-use borrow.Author.Needs.{needs}
 use Rattle.exports.proofs.gathered.Statement.{statement}
 use Rattle.exports.proofs.gathered.Tie as tie
 

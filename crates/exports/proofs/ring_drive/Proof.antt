@@ -1,13 +1,12 @@
-use Rattle.laws.proofs.Tests.{told-false, told-true}
-use Rattle.ring.specs.View.{driven, state}
-use Rattle.exports.specs.Lent.{flagsTest}
-use Rattle.exports.proofs.Laws.{drive-unflagged, drive-refused, drive-accepted}
+use borrow.Author.Needs.{needs, sfits-of}
+use mathlib.Core.Path.{_∙_, refl}
 use mir.Facts.{toZ-ofZ}
 use mir.Syntax.{w64}
 use mir.Val.{SFits}
-use mathlib.Core.Path.{_∙_}
-use mathlib.Core.Path.{refl}
-use borrow.Author.Needs.{needs, sfits-of}
+use Rattle.laws.proofs.Tests.{told-false, told-true}
+use Rattle.ring.specs.View.{driven, state}
+use Rattle.exports.specs.Lent.{flagsTest}
+use Rattle.exports.proofs.Laws.{drive-accepted, drive-refused, drive-unflagged}
 use Rattle.exports.proofs.ring_drive.Statement.{statement}
 use Rattle.exports.proofs.ring_drive.Tie as tie
 
@@ -41,14 +40,18 @@ code-requires c κs = tt
 
 returns-2 : tie.Need-returns-2
 unfolding flagsTest
-returns-2 c = let at-verdict = c .before .before .before in
+returns-2 c =
+    let at-verdict = c .before .before .before in
     let at-drive = at-verdict .before in
-    let at-flags = at-drive .before .before .before .before .before .before .before .before .before .before in
-    let start = at-flags .before .before .before in
+    let at-if1 = at-drive .before .before .before .before .before .before .before .before .before in
+    let start = at-if1 .before .before .before .before in
     let f : SFits w64 (start .args .q .now) = search needs in
     drive-refused (state (at-drive .before .gathered .result)) (driven (at-drive .drive .result)) (at-verdict .reason-verdict .result)
-    (at-drive .before .gathered .ensures ∙ rw (toZ-ofZ f)) (at-drive .drive .ensures)
-    (told-true (at-flags .are-flags .ensures) (at-drive .before .before .before .before .before .before .before .before .before .if1 .left)) (at-verdict .reason-verdict .ensures) (c .before .enum-told2 .given .1)
+    (at-drive .before .gathered .ensures ∙ rw (toZ-ofZ f))
+    (at-drive .drive .ensures)
+    (told-true (at-if1 .before .are-flags .ensures) (at-if1 .if1 .left))
+    (at-verdict .reason-verdict .ensures)
+    (c .before .enum-told2 .given .1)
     (c .code .ensures)
 
 byte-requires : tie.Need-byte-requires
@@ -60,16 +63,23 @@ reason-number-requires c κs = tt
 -- q is the eighth of the fields that `struct-told` tells of
 returns-3 : tie.Need-returns-3
 unfolding flagsTest
-returns-3 c = let at-verdict = c .before .before .before .before .before .before .before in
+returns-3 c =
+    let at-accepted = c .before .before .before .before .before in
+    let at-verdict = at-accepted .before .before in
     let at-drive = at-verdict .before in
-    let at-flags = at-drive .before .before .before .before .before .before .before .before .before .before in
-    let start = at-flags .before .before .before in
+    let at-if1 = at-drive .before .before .before .before .before .before .before .before .before in
+    let start = at-if1 .before .before .before .before in
     let f : SFits w64 (start .args .q .now) = search needs in
     let g : SFits w64 (at-drive .drive .result .ring .q) = sfits-of (c .before .before .struct-told .given .1 .1 .1 .1 .1 .1 .1 .0 .1) in
     drive-accepted (state (at-drive .before .gathered .result)) (driven (at-drive .drive .result)) (at-verdict .reason-verdict .result)
-    (at-drive .before .gathered .ensures ∙ rw (toZ-ofZ f)) (at-drive .drive .ensures)
-    (told-true (at-flags .are-flags .ensures) (at-drive .before .before .before .before .before .before .before .before .before .if1 .left)) (at-verdict .reason-verdict .ensures) (c .before .before .before .before .before .enum-told .given .1)
-    (c .reason-number .ensures) refl (rw (toZ-ofZ g, c .before .byte .ensures))
+    (at-drive .before .gathered .ensures ∙ rw (toZ-ofZ f))
+    (at-drive .drive .ensures)
+    (told-true (at-if1 .before .are-flags .ensures) (at-if1 .if1 .left))
+    (at-verdict .reason-verdict .ensures)
+    (at-accepted .enum-told .given .1)
+    (c .reason-number .ensures)
+    refl
+    (rw (toZ-ofZ g, c .before .byte .ensures))
 
 pub ring-drive-spec : {M : Type 1} → statement M
 ring-drive-spec =

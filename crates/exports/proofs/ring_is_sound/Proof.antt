@@ -1,12 +1,12 @@
+use borrow.Author.Needs.{needs}
+use mathlib.Core.Bool.{_&&_}
+use mathlib.Core.Path.{_∙_, ap}
 use mir.Facts.{toZ-ofZ}
 use mir.Syntax.{w64}
 use mir.Val.{SFits}
-use mathlib.Core.Bool.{_&&_}
-use mathlib.Core.Path.{_∙_, ap}
 use Rattle.flag_bytes.specs.Flags.{byteOf}
 use Rattle.ring_rules.specs.Soundness.{soundTest}
 use Rattle.exports.specs.Lent.{flagsTest}
-use borrow.Author.Needs.{needs}
 use Rattle.exports.proofs.ring_is_sound.Statement.{statement}
 use Rattle.exports.proofs.ring_is_sound.Tie as tie
 
@@ -24,10 +24,12 @@ byte-requires c κs = tt
 
 returns : tie.Need-returns
 unfolding flagsTest
-returns c = let start = c .before .before .before .before .before .before .before .before .before .before in
+returns c =
+    let at-flags = c .before .before .before .before .before .before .before .before in
+    let start = at-flags .before .before in
     let f : SFits w64 (start .args .q) = search needs in
     let e = c .before .is-sound .ensures ∙ ap soundTest (c .before .before .gathered .ensures) in
-    c .byte .ensures ∙ (λ x. byteOf (c .before .before .before .before .before .before .before .before .are-flags .ensures x && e x)) ∙ rw (toZ-ofZ f)
+    c .byte .ensures ∙ (λ x. byteOf (at-flags .are-flags .ensures x && e x)) ∙ rw (toZ-ofZ f)
 
 pub ring-is-sound-spec : {M : Type 1} → statement M
 ring-is-sound-spec =

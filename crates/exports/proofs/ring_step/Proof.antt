@@ -1,12 +1,12 @@
-use Rattle.laws.proofs.Tests.{told-false, told-true}
-use Rattle.ring.specs.View.{answer, state}
-use Rattle.exports.specs.Lent.{flagsTest}
-use Rattle.exports.proofs.Laws.{step-unflagged, step-refused, step-accepted}
+use borrow.Author.Needs.{needs, sfits-of}
+use mathlib.Core.Path.{_∙_}
 use mir.Facts.{toZ-ofZ}
 use mir.Syntax.{w64}
 use mir.Val.{SFits}
-use mathlib.Core.Path.{_∙_}
-use borrow.Author.Needs.{needs, sfits-of}
+use Rattle.laws.proofs.Tests.{told-false, told-true}
+use Rattle.ring.specs.View.{answer, state}
+use Rattle.exports.specs.Lent.{flagsTest}
+use Rattle.exports.proofs.Laws.{step-accepted, step-refused, step-unflagged}
 use Rattle.exports.proofs.ring_step.Statement.{statement}
 use Rattle.exports.proofs.ring_step.Tie as tie
 
@@ -37,13 +37,17 @@ code-requires c κs = tt
 
 returns-2 : tie.Need-returns-2
 unfolding flagsTest
-returns-2 c = let at-step = c .before .before .before in
-    let at-flags = at-step .before .before .before .before .before .before .before .before .before .before in
-    let start = at-flags .before .before .before .before in
+returns-2 c =
+    let at-step = c .before .before .before in
+    let at-if1 = at-step .before .before .before .before .before .before .before .before .before in
+    let start = at-if1 .before .before .before .before .before in
     let f : SFits w64 (start .args .q .now) = search needs in
     step-refused (state (at-step .before .gathered .result)) (answer (at-step .step .result))
-    (at-step .before .gathered .ensures ∙ rw (toZ-ofZ f)) (at-step .step .ensures)
-    (told-true (at-flags .are-flags .ensures) (at-step .before .before .before .before .before .before .before .before .before .if1 .left)) (c .before .enum-told2 .given .1) (c .code .ensures)
+    (at-step .before .gathered .ensures ∙ rw (toZ-ofZ f))
+    (at-step .step .ensures)
+    (told-true (at-if1 .before .are-flags .ensures) (at-if1 .if1 .left))
+    (c .before .enum-told2 .given .1)
+    (c .code .ensures)
 
 ring-bytes-requires : tie.Need-ring-bytes-requires
 ring-bytes-requires c κs = tt
@@ -57,15 +61,20 @@ byte-requires-2 c κs = tt
 -- q is the eighth of the fields that `struct-told` tells of
 returns-3 : tie.Need-returns-3
 unfolding flagsTest
-returns-3 c = let at-step = c .before .before .before .before .before .before .before .before .before .before .before .before in
-    let at-flags = at-step .before .before .before .before .before .before .before .before .before .before in
-    let start = at-flags .before .before .before .before in
+returns-3 c =
+    let at-bytes = c .before .before .before .before .before .before .before in
+    let at-accepted = at-bytes .before .before .before in
+    let at-step = at-accepted .before .before in
+    let at-if1 = at-step .before .before .before .before .before .before .before .before .before in
+    let start = at-if1 .before .before .before .before .before in
     let f : SFits w64 (start .args .q .now) = search needs in
     let g : SFits w64 (at-step .step .result .ring .q) = sfits-of (c .before .before .struct-told .given .1 .1 .1 .1 .1 .1 .1 .0 .1) in
     step-accepted (state (at-step .before .gathered .result)) (answer (at-step .step .result))
-    (at-step .before .gathered .ensures ∙ rw (toZ-ofZ f)) (at-step .step .ensures)
-    (told-true (at-flags .are-flags .ensures) (at-step .before .before .before .before .before .before .before .before .before .if1 .left)) (c .before .before .before .before .before .before .before .before .before .before .enum-told .given .1)
-    (rw (toZ-ofZ g, c .before .before .before .before .before .before .before .ring-bytes .ensures, c .before .byte .ensures, c .byte2 .ensures))
+    (at-step .before .gathered .ensures ∙ rw (toZ-ofZ f))
+    (at-step .step .ensures)
+    (told-true (at-if1 .before .are-flags .ensures) (at-if1 .if1 .left))
+    (at-accepted .enum-told .given .1)
+    (rw (toZ-ofZ g, at-bytes .ring-bytes .ensures, c .before .byte .ensures, c .byte2 .ensures))
 
 pub ring-step-spec : {M : Type 1} → statement M
 ring-step-spec =

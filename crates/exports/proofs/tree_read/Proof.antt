@@ -1,5 +1,5 @@
-use Rattle.exports.proofs.Laws.{read-as}
 use borrow.Author.Needs.{needs}
+use Rattle.exports.proofs.Laws.{read-as}
 use Rattle.exports.proofs.tree_read.Statement.{statement}
 use Rattle.exports.proofs.tree_read.Tie as tie
 

@@ -1,8 +1,8 @@
+use borrow.Author.Needs.{needs}
+use mathlib.Core.Path.{_∙_}
 use Rattle.laws.proofs.Tests.{told-false, told-true}
 use Rattle.exports.specs.LentTree.{treeFlagsTest}
-use Rattle.exports.proofs.Laws.{write-unflagged, write-flagged}
-use mathlib.Core.Path.{_∙_}
-use borrow.Author.Needs.{needs}
+use Rattle.exports.proofs.Laws.{write-flagged, write-unflagged}
 use Rattle.exports.proofs.tree_write.Statement.{statement}
 use Rattle.exports.proofs.tree_write.Tie as tie
 
@@ -36,23 +36,33 @@ same-length c = search needs
 
 returns-2 : tie.Need-returns-2
 unfolding treeFlagsTest
-returns-2 c = let at-write = c .before .before .before .before .before in
+returns-2 c =
+    let at-write = c .before .before .before .before .before in
     let at-if1 = at-write .before .before .before .before .before .before .before .before in
     let flags = at-write .before .before .before .before .before .before .tree-flags .ensures in
-    write-flagged (at-write .write .result) (told-true (at-if1 .before .are-tree-flags .ensures) (at-if1 .if1 .left))
-    (at-write .write .ensures .0 ∙ rw flags) (c .written-number .ensures) (rw (c .before .enum-told .given .1)) (at-write .write .ensures .1 ∙ rw flags)
+    write-flagged (at-write .write .result)
+    (told-true (at-if1 .before .are-tree-flags .ensures) (at-if1 .if1 .left))
+    (at-write .write .ensures .0 ∙ rw flags)
+    (c .written-number .ensures)
+    (rw (c .before .enum-told .given .1))
+    (at-write .write .ensures .1 ∙ rw flags)
 
 same-length-2 : tie.Need-same-length-2
 same-length-2 c = search needs
 
 returns-3 : tie.Need-returns-3
 unfolding treeFlagsTest
-returns-3 c = let at-write = c .before .before .before .before .before in
+returns-3 c =
+    let at-write = c .before .before .before .before .before in
     let at-if1 = at-write .before .before .before .before .before .before .before .before in
     let flags = at-write .before .before .before .before .before .before .tree-flags .ensures in
     let length = c .before .w .given .1 in
-    write-flagged (at-write .write .result) (told-true (at-if1 .before .are-tree-flags .ensures) (at-if1 .if1 .left))
-    (at-write .write .ensures .0 ∙ rw flags) (rw length) (rw length) (at-write .write .ensures .1 ∙ rw flags)
+    write-flagged (at-write .write .result)
+    (told-true (at-if1 .before .are-tree-flags .ensures) (at-if1 .if1 .left))
+    (at-write .write .ensures .0 ∙ rw flags)
+    (rw length)
+    (rw length)
+    (at-write .write .ensures .1 ∙ rw flags)
 
 pub tree-write-spec : {M : Type 1} → statement M
 tree-write-spec =

@@ -1,13 +1,11 @@
-use Rattle.flag_bytes.proofs.Laws.{tested-all}
-use Prim.Native.Nat.{_<_}
+use Prim.Native.Nat.{_-_, _<_, _≤_}
 use borrow.Author.Needs.{needs}
-use native.Mathlib.Omega.{arith}
-use Prim.Native.Nat.{_≤_, _-_}
-use lib.ListN.{length, drop}
+use lib.ListN.{drop, length}
 use mathlib.Core.Bool.{_&&_}
-use mathlib.Core.Path.{_≡_, _∙_, sym, refl}
+use mathlib.Core.Path.{_∙_, _≡_, refl, sym}
+use native.Mathlib.Omega.{arith}
 use Rattle.flag_bytes.specs.Flags.{areFlags}
-use Rattle.flag_bytes.proofs.Laws.{tested-next}
+use Rattle.flag_bytes.proofs.Laws.{tested-all, tested-next}
 use Rattle.flag_bytes.proofs.are_flags.Statement.{statement}
 use Rattle.flag_bytes.proofs.are_flags.Tie as tie
 

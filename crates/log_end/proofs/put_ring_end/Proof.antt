@@ -1,5 +1,5 @@
-use Rattle.ring_rules.specs.State.{blackNodes, inTransit}
 use borrow.Author.Needs.{needs}
+use Rattle.ring_rules.specs.State.{blackNodes, inTransit}
 use Rattle.log_end.proofs.put_ring_end.Statement.{statement}
 use Rattle.log_end.proofs.put_ring_end.Tie as tie
 

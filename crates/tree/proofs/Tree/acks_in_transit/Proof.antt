@@ -1,7 +1,7 @@
+use borrow.Author.Needs.{needs}
 use mathlib.Core.Path.{_∙_}
 use Rattle.refusal.specs.Counts.{countOf}
 use Rattle.tree_rules.specs.Termination.{acksTotal}
-use borrow.Author.Needs.{needs}
 use Rattle.tree.proofs.Tree.acks_in_transit.Statement.{statement}
 use Rattle.tree.proofs.Tree.acks_in_transit.Tie as tie
 
