@@ -24,7 +24,7 @@ use Rattle.runs.specs.Runs.{Request, acceptedOf, runOf}
 use Rattle.signed.specs.Integers.{_⊖_, isPositive, isSame, isZero}
 use Rattle.log_runs.proofs.Theorems.{log-runs}
 use Rattle.log_runs.specs.First.{flagsTo}
-use Rattle.log_runs.specs.Listing.{Listing, first, firstLine, listing, otherLines}
+use Rattle.log_runs.specs.Listing.{ListingWhole, first, firstLine, listing, otherLines}
 use Rattle.log_runs.specs.Says.{Ask, Each, RingAsks, line, no-line, request, says}
 use Rattle.log_runs.specs.WholeLog.{CountsDown, NoneBefore, OkAt, oks, verdictAt}
 use Rattle.forms.specs.declared.RingStep.the-variants as step
@@ -108,7 +108,7 @@ four {K} {qs} {Step} c d =
     let k = e .exactly 6 (omega arith) none-before announce-line .0 (computed .2) in
     omega (arith, computed .3, k)
 
-pub listing-whole : Listing
+pub listing-whole : ListingWhole
 unfolding flagsTo decimal digits
 listing-whole = record {
   lines = lines;

@@ -39,7 +39,7 @@ listing = together (firstLine ∷ otherLines)
 abbrev pub first : State
 first = startOf 2 (0 ∷ 2 ∷ []) .state
 
-pub record Listing : Type 0 where
+pub record ListingWhole : Type 0 where
   pub lines : linesOf listing ≡ firstLine ∷ otherLines
   -- the first line is accepted, and begins a ring in that state
   pub asks : FirstAsks firstLine (ring-start 2 [] (1 ∷ []))

@@ -16,7 +16,7 @@ use Rattle.tree_faults.proofs.Numbers.{some-digit}
 use Rattle.tree_faults.proofs.Places.{FaultTo, NodeText, in-list, in-node, in-rest, no-bracket, not-closed, zero-led}
 use Rattle.tree_faults.proofs.Reader.{large, not-there, small}
 use Rattle.tree_faults.proofs.Theorems.{place-after, place-is}
-use Rattle.tree_faults.specs.Cases.{Cases}
+use Rattle.tree_faults.specs.Cases.{AllCases}
 use Rattle.tree_faults.specs.Theorems.{WholeText}
 use Rattle.tree_faults.specs.Trees.{node, nodesText, none}
 use Rattle.tree_text.proofs.Lists.{alone, blank}
@@ -106,7 +106,7 @@ five =
     (large s 2 (omega arith) (omega arith) 7 (set (alone 0) 1 0) 2 refl (omega arith) refl 5 9 (record { text = refl; ends = refl; last = refl })
     (omega arith))
 
-pub all-cases : Cases
+pub all-cases : AllCases
 unfolding decimal digits scanOf checked numberOf andThen entered closed bodyOf nodeBy listOf nodeOf readOf
 all-cases = record {
   empty = (NotAForm, refl, refl, place-is empty);

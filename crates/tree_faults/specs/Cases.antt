@@ -14,7 +14,7 @@ abbrev pub Faulty : ℕ → String → ℕ → ℕ → Type 0
 Faulty n s place number =
     (e : Refusal) × (readOf n (bytes s) .verdict ≡ Refused e) × (numberOf e ≡ number) × ((F : Fault n (bytes s) e) → F .place ≡ place)
 
-pub record Cases : Type 0 where
+pub record AllCases : Type 0 where
   pub empty : Faulty 4 "" 0 10
   pub after-the-end : Faulty 4 "(0) " 3 10
   pub cut-off : Faulty 4 "(0 (1" 5 10
