@@ -53,7 +53,7 @@ firstVerdict (ring-start n active black) = firstOf (startRows (inRange 96 n) (al
 firstVerdict (tree-start n root) = firstOf (startRows (inRange 16 n) (ltb root n))
 firstVerdict no-start = Refused NotAForm
 
--- the run that an accepted first line begins: the state of that start, no token move inRange
+-- the run that an accepted first line begins: the state of that start, no token move counted
 abbrev pub begun : Asked → Stage
 begun (ring-start n active black) = onRing (ringStart.startOf n (flagsTo active black n) .state) 0
 begun (tree-start n root) = onTree (treeStart.startOf n root .state)

@@ -11,7 +11,6 @@ use Rattle.color.specs.Colors.{blackened, isBlack, whitened}
 use Rattle.decimal.specs.Bytes.{bytes}
 use Rattle.laws.specs.Places.{allTo}
 use Rattle.log_rules.specs.Output.{outputOf}
-use Rattle.refusal.specs.Counts.{countOf}
 use Rattle.refusal.specs.Table.{codeOf, numberOf}
 use Rattle.refusal.specs.declared.Refusal.{Refusal}
 use Rattle.ring_rules.specs.Driver.{driveOf, reasonNumber}
@@ -23,11 +22,13 @@ use Rattle.tree_rules.specs.Termination.{acksTotal, engagedOthers}
 use Rattle.tree_text.specs.Read.{readOf}
 use Rattle.tree_text.specs.Text.{textOf}
 use Rattle.tree_text.specs.Write.{writtenNumber, writtenOf}
+use Rattle.ring_rules.specs.Answers as ringAnswers
 use Rattle.ring_rules.specs.Soundness as ringSound
 use Rattle.ring_rules.specs.Start as ringStart
 use Rattle.ring_rules.specs.State as ring
 use Rattle.ring_runs.specs.Counts as ringRuns
 use Rattle.ring_runs.specs.Requests as ringRequests
+use Rattle.tree_rules.specs.Answers as treeAnswers
 use Rattle.tree_rules.specs.Soundness as treeSound
 use Rattle.tree_rules.specs.Start as treeStart
 use Rattle.tree_rules.specs.State as tree
@@ -197,20 +198,21 @@ abbrev pub treePlaces : List TreeTest → List ℕ
 treePlaces [] = []
 treePlaces (c ∷ cs) = treePlace c ∷ treePlaces cs
 
--- the numbers that a state handed in gets: from a step, from the driver and where its messages in transit are asked for; from a step, from
--- the writer and where its acknowledgements are asked for
+-- the numbers that a state handed in gets: from a step, from the driver, and where its messages in transit and its black nodes are asked for;
+-- from a step, from the writer, and where its acknowledgements are asked for
 abbrev pub ringTold : ring.State → List ℕ
 ringTold r =
     codeOf (ringRuns.ring .verdict r ringRequests.probe)
     ∷ reasonNumber (driveOf r 0 .reason)
-    ∷ codeOf (countOf (ringSound.soundTest r) (ring.inTransit r) .verdict)
+    ∷ codeOf (ringAnswers.transitAnswer r .verdict)
+    ∷ codeOf (ringAnswers.blackAnswer r .verdict)
     ∷ []
 
 abbrev pub treeTold : tree.State → List ℕ
 treeTold t =
     codeOf (treeRuns.tree .verdict t treeRequests.announce)
     ∷ writtenNumber (writtenOf t (replicate 100 0))
-    ∷ codeOf (countOf (treeSound.soundTest t) (acksTotal t) .verdict)
+    ∷ codeOf (treeAnswers.acksAnswer t .verdict)
     ∷ []
 
 abbrev pub isRingSound : ring.State → Bool
@@ -262,7 +264,7 @@ passes (quiet-with t xs a e) =
 passes (drives r m e k) = drivesTo r m e k
 passes (ring-sound r) = isRingSound r
 passes (sound-by c r) = isRingSound r && failAt (others c) 0 (safraTests r)
-passes (ring-unsound c r) = failAt (ringPlace c ∷ []) 0 (ringTests r) && sameList (ringTold r) (3 ∷ 3 ∷ 3 ∷ [])
+passes (ring-unsound c r) = failAt (ringPlace c ∷ []) 0 (ringTests r) && sameList (ringTold r) (3 ∷ 3 ∷ 3 ∷ 3 ∷ [])
 passes (tree-sound t) = failAt [] 0 (treeTests t) && not (among 3 (treeTold t))
 passes (tree-unsound cs t) = failAt (treePlaces cs) 0 (treeTests t) && sameList (treeTold t) (3 ∷ 3 ∷ 3 ∷ [])
 passes (writes t size k) = eqb (writtenNumber (writtenOf t (replicate size 0))) k

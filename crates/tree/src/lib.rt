@@ -5,12 +5,10 @@ use refusal::Verdict;
 use tree_check::Rest;
 ghost use mathlib.Core.Path.{_≡_};
 ghost use Prim.Native.Nat.{_<_};
-ghost use Rattle.refusal.specs.Counts.{countOf};
 ghost use Rattle.tree_rules.specs.Rules.{Send, Take, Idle, Ack, Leave, Announce};
 ghost use Rattle.tree_rules.specs.Soundness.{soundTest};
-ghost use Rattle.tree_rules.specs.Answers.{answerOf, stepOf};
+ghost use Rattle.tree_rules.specs.Answers.{answerOf, stepOf, acksAnswer};
 ghost use Rattle.tree_rules.specs.Start.{blank, firstState, startOf};
-ghost use Rattle.tree_rules.specs.Termination.{acksTotal};
 ghost use Rattle.tree_check.specs.Whole.{whole};
 ghost use Rattle.tree.specs.View.{state, answer};
 
@@ -218,7 +216,7 @@ impl Tree {
 
     // How many acknowledgements are in transit, of a sound state.
     pub fn acks_in_transit(self) -> Count
-        ensures { λ c. ⌜ c ≡ countOf (soundTest (state self)) (acksTotal (state self)) ⌝ }
+        ensures { λ c. ⌜ c ≡ acksAnswer (state self) ⌝ }
     {
         let sound = self.is_sound();
         refusal::counted(sound, tree_check::sum_of(&self.acks))

@@ -4,6 +4,8 @@ use mathlib.Core.Logic.{_⊎_}
 use mathlib.Core.Path.{_∙_, _≡_, ap, refl, subst, sym}
 use Rattle.laws.proofs.Tests.{false-true}
 use Rattle.refusal.proofs.Table.{accepts, first-row, none-holds, numbered, other-kind}
+use Rattle.refusal.proofs.Theorems.{count-refused, count-told}
+use Rattle.refusal.specs.Counts.{countOf}
 use Rattle.refusal.specs.Table.{settle}
 use Rattle.refusal.specs.declared.Verdict.{Verdict}
 use Rattle.refusal.specs.declared.Verdict.the-variants.{Accepted, Refused}
@@ -18,8 +20,8 @@ use Rattle.tree_rules.specs.Rules.{Ack, Announce, Idle, Kind, Leave, Sen
 use Rattle.tree_rules.specs.Soundness.{Open, Sound, soundTest}
 use Rattle.tree_rules.specs.Start.{blank, firstState, startOf, startTable, startVerdict}
 use Rattle.tree_rules.specs.State.{State}
-use Rattle.tree_rules.specs.Termination.{Quiet}
-use Rattle.tree_rules.specs.Theorems.{AnnouncedQuiet, FieldsUnread, LimitMet, SoundKept, SoundTested, StartAnswered, StepAnswered}
+use Rattle.tree_rules.specs.Termination.{Quiet, acksTotal}
+use Rattle.tree_rules.specs.Theorems.{AnnouncedQuiet, CountsTold, FieldsUnread, LimitMet, SoundKept, SoundTested, StartAnswered, StepAnswered, Tells}
 
 pub sound-tested : SoundTested
 sound-tested = record { holds = sound-true; tested = true-sound }
@@ -62,6 +64,16 @@ sound-kept =
     go : (t : State) (k : Kind) (i j : ℕ) → Sound t → (v : Verdict) → verdictOf t k i j ≡ v → Sound (answerOf t k i j .state)
     go t k i j s Accepted e = step-sound t k i j e
     go t k i j s (Refused x) e = subst Sound (sym (step-answered .same t k i j x e)) s
+
+tells : (number : State → ℕ) → Tells (λ t. countOf (soundTest t) (number t)) number
+tells number =
+    record {
+      sound = λ t s. count-told (soundTest t) (number t) (true-sound t s);
+      other = λ t h. count-refused (soundTest t) (number t) (λ e. h (sound-true t e));
+    }
+
+pub counts-told : CountsTold
+counts-told = record { acks = tells acksTotal }
 
 pub announced-quiet : AnnouncedQuiet
 announced-quiet =

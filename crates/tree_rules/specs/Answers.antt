@@ -3,11 +3,14 @@ use Prim.Native.Nat.{ℕ}
 use lib.Dec.{eqb, leb}
 use mathlib.Core.Bool.{Bool, _||_, false, true}
 use mathlib.Core.List.{List}
+use Rattle.refusal.specs.Counts.{countOf}
 use Rattle.refusal.specs.Table.{Row, firstOf, sendLimit, settle, stepRows}
+use Rattle.refusal.specs.declared.Count.{Count}
 use Rattle.refusal.specs.declared.Verdict.{Verdict}
 use Rattle.tree_rules.specs.Rules.{Ack, Announce, Idle, Kind, Leave, Send, Take, Unknown, effect, guard, kindOf}
 use Rattle.tree_rules.specs.Soundness.{soundTest}
 use Rattle.tree_rules.specs.State.{State}
+use Rattle.tree_rules.specs.Termination.{acksTotal}
 
 abbrev pub unknown : Kind → Bool
 unknown Send = false
@@ -67,3 +70,7 @@ answerOf t k i j = record { verdict = verdictOf t k i j; state = settle (verdict
 -- the same by kind number
 abbrev pub stepOf : State → ℕ → ℕ → ℕ → Answer
 stepOf t k i j = answerOf t (kindOf k) i j
+
+-- what is told where the acknowledgements in transit are asked for
+abbrev pub acksAnswer : State → Count
+acksAnswer t = countOf (soundTest t) (acksTotal t)

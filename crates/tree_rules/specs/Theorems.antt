@@ -4,14 +4,15 @@ use mathlib.Core.Bool.{false, true}
 use mathlib.Core.Logic.{_↔_, _≢_, _⊎_}
 use mathlib.Core.Path.{_≡_}
 use Rattle.refusal.specs.Table.{FirstIs, NoneHolds, Numbered, Row, codeOf, sendLimit}
+use Rattle.refusal.specs.declared.Count.{Count}
 use Rattle.refusal.specs.declared.Refusal.{Refusal}
 use Rattle.refusal.specs.declared.Verdict.the-variants.{Accepted, Refused}
-use Rattle.tree_rules.specs.Answers.{answerOf, stepOf, stepTable, verdictOf}
+use Rattle.tree_rules.specs.Answers.{acksAnswer, answerOf, stepOf, stepTable, verdictOf}
 use Rattle.tree_rules.specs.Rules.{Ack, Announce, Idle, Kind, Leave, Send, Unknown, effect}
 use Rattle.tree_rules.specs.Soundness.{Open, Sound, soundTest}
 use Rattle.tree_rules.specs.Start.{firstState, startOf, startTable, startVerdict}
 use Rattle.tree_rules.specs.State.{State, activeAt}
-use Rattle.tree_rules.specs.Termination.{Quiet}
+use Rattle.tree_rules.specs.Termination.{Quiet, acksTotal}
 
 -- The facts of soundness and the test that code computes agree.
 pub record SoundTested : Type 0 where
@@ -38,6 +39,14 @@ pub record StartAnswered : Type 0 where
       (n root : ℕ) (e : Refusal) → startVerdict n root ≡ Refused e
       → (row : Row) × (row .refusal ≡ e) × FirstIs (startTable n root) row
   pub none : (n root : ℕ) (e : Refusal) → startVerdict n root ≡ Refused e → soundTest (startOf n root .state) ≡ false
+
+-- Document 01, "any state handed in, 3, not sound", where a number is asked of a state: it is told of a sound one, and 3 of every other.
+pub record Tells (answer : State → Count) (number : State → ℕ) : Type 0 where
+  pub sound : (t : State) → Sound t → (codeOf (answer t .verdict) ≡ 0) × (answer t .number ≡ number t)
+  pub other : (t : State) → (Sound t → ⊥) → codeOf (answer t .verdict) ≡ 3
+
+pub record CountsTold : Type 0 where
+  pub acks : Tells acksAnswer acksTotal
 
 -- Document 01: "Every start and accepted step gives a sound state." So does every refused step of a sound state.
 pub record SoundKept : Type 0 where
