@@ -1,9 +1,10 @@
 -- `FirstFault`. Assumes nothing.
 use Prim.Native.Nat.{_+_, _<_, _≤_, ℕ}
+use borrow.Author.Tests.{ne-eqb}
 use lib.Dec.{eqb}
 use lib.ListN.{List·getD-append, drop, getD, length, length-append, length-drop, take, take-append-drop}
 use lib.Seq.{drop-append-le, length-take-le, take-append-seam}
-use mathlib.Core.Bool.{cond}
+use mathlib.Core.Bool.{Bool, cond}
 use mathlib.Core.List.{List, [], _++_, _∷_, append-assoc, append-nil}
 use mathlib.Core.Logic.{_↔_, inl, inr}
 use mathlib.Core.Path.{_∙_, _≡_, ap, refl, subst, sym}
@@ -18,14 +19,16 @@ use Rattle.refusal.proofs.Table.{not-both}
 use Rattle.refusal.specs.declared.Refusal.{Refusal}
 use Rattle.refusal.specs.declared.Refusal.the-variants.{NotAForm, UnknownNode}
 use Rattle.refusal.specs.declared.Verdict.the-variants.{Accepted, Refused}
+use Rattle.tree_faults.proofs.Cuts.{Cut, cut-list, cut-node, inside}
 use Rattle.tree_faults.proofs.Nodes.{first-alike, list-below, list-of, listed, no-digit, no-number-to, node-then, number-below, stands-from, used, used-most, used-none, used-set}
 use Rattle.tree_faults.proofs.Numbers.{longer, same-front, some-digit}
-use Rattle.tree_faults.proofs.Places.{FaultAt, FaultTo, Large, NodeText, never, ten-of}
+use Rattle.tree_faults.proofs.Places.{Complete, FaultAt, FaultTo, Large, NodeText, never, ten-of}
 use Rattle.tree_faults.proofs.Reader.{root-fault, same-refusal}
-use Rattle.tree_faults.specs.Theorems.{Begins, Fault, FirstFault, NumberTo, WholeText}
-use Rattle.tree_faults.specs.Trees.{node, nodesText, treeText}
+use Rattle.tree_faults.proofs.Searches.{greatest, written-from, written-or-not}
+use Rattle.tree_faults.specs.Theorems.{Begins, Fault, FirstFault, Near, NumberTo, OpenedTo, WholeText, Written}
+use Rattle.tree_faults.specs.Trees.{node, nodesText, none, treeText}
 use Rattle.tree_text.proofs.Given.{node-read}
-use Rattle.tree_text.proofs.Lists.{Lists, alone, alone-places, bare, blank}
+use Rattle.tree_text.proofs.Lists.{Lists, alone, alone-places, bare, blank, none as no-more}
 use Rattle.tree_text.proofs.Printed.{node-next}
 use Rattle.tree_text.proofs.Steps.{verdict-of}
 use Rattle.tree_text.proofs.Taken.{taken}
@@ -145,7 +148,7 @@ whole-from {root = root} {e = e} n16 h lists =
       text = ap (λ (l : List ℕ). opening ∷ (decimal root ++ (l ++ (closing ∷ [])))) (Y .text);
     }
 
-tree-of : (n : ℕ) (e : List ℕ) (root : ℕ) → EngagementTree n e root → WholeText n (textOf e root)
+pub tree-of : (n : ℕ) (e : List ℕ) (root : ℕ) → EngagementTree n e root → WholeText n (textOf e root)
 tree-of n e root T = subst (WholeText n) (sym (node-next 15 e root)) (whole-from (T .nodes) (T .root-in) (tree-lists n e root T))
 
 module _ (n : ℕ) (s : List ℕ) (W : WholeText n s) where
@@ -288,6 +291,105 @@ refused-at n s e h n16 r =
     so : (f : Refusal) → endOf s m ≡ nothing f → f ≡ e
     so f p = same-refusal (ap (λ (x : Found). x .verdict) (read-end n s h n16 ∙ p)) r
 
+-- ---- by the texts of trees of n nodes
+
+begins-written : (n : ℕ) (u : List ℕ) → Written n u → Begins n u
+begins-written n u w = begins-with n (textOf (w .engagers) (w .root)) (tree-of n (w .engagers) (w .root) (w .tree)) u (w .rest) (w .text)
+
+-- the node that is being opened at the place, and what stands before it
+record Opening (n : ℕ) (s : List ℕ) (place : ℕ) : Type 0 where
+  from : ℕ
+  before : from ≤ place
+  written : Written n (take from s)
+  opened : OpenedTo s from place
+
+opening-of : (n : ℕ) (s : List ℕ) (place : ℕ) → 0 < n → n ≤ 16 → place ≤ length s → Begins n (take place s) → Opening n s place
+opening-of n s place h n16 fits B =
+    elim (decLt (1 + length (decimal k)) (length u)) [ no g ↦ at-root (omega arith) | yes l ↦ under-root l ]
+  where
+    u : List ℕ
+    u = take place s
+
+    k : ℕ
+    k = B .root
+
+    all : List ℕ
+    all = treeText k (B .children)
+
+    complete : Complete all n (length u)
+    complete v end w l = B .below v end (narrow all u (B .rest) (B .text) v end l w) l
+
+    whole-written : {t : List ℕ} (v rest : List ℕ) → WholeText n t → t ≡ v ++ rest → Written n v
+    whole-written {t} v rest W = written-from n t v rest (whole-read n t W h n16)
+
+    -- the root is
+    at-root : length u ≤ 1 + length (decimal k) → Opening n s place
+    at-root l =
+        let R = longer u (B .rest) (opening ∷ decimal k) (nodesText (B .children) ++ (closing ∷ [])) (sym (B .text)) (omega arith) in
+        record {
+          from = 0;
+          before = omega arith;
+          written = whole-written [] (treeText 0 none) (whole-from n16 h no-more) refl;
+          opened = record { part = u; is = refl; number = k; more = R .0; opens = R .1 };
+        }
+
+    -- another node is, or none
+    under-root : 1 + length (decimal k) < length u → Opening n s place
+    under-root l = record {
+      from = length (C .kept);
+      before = omega (arith, length-take-le place s fits, simp length-append at (ap length (C .split)));
+      written = subst (Written n) (sym front) (whole-written (C .kept) (C .rest) whole (C .is));
+      opened = record {
+        part = C .opened;
+        is = C .split ∙ ap (λ (x : List ℕ). x ++ C .opened) (sym front);
+        number = C .number;
+        more = C .more;
+        opens = ap (λ (b : Bool). cond b [] (space ∷ []) ++ (opening ∷ decimal (C .number))) (ne-eqb (length (C .kept)) 0 (omega (arith, Q .1)))
+            ∙ C .opens;
+      };
+    }
+      where
+        stands : all ≡ all ++ []
+        stands = sym (append-nil all)
+
+        Q : (C : Cut n (treeText k) (B .children) u) × (0 < length (C .kept))
+        Q =
+            cut-node all n (length u) complete k 0 (B .children) [] stands (cut-list all n (length u) complete (B .children)) u (B .rest) (B .text)
+            (omega arith) l
+
+        C : Cut n (treeText k) (B .children) u
+        C = Q .0
+
+        front : take (length (C .kept)) s ≡ C .kept
+        front =
+            ap (take (length (C .kept)))
+            (sym (take-append-drop place s)
+            ∙ (ap (λ (x : List ℕ). x ++ drop place s) (C .split) ∙ append-assoc (C .kept) (C .opened) (drop place s)))
+            ∙ take-append-seam (C .kept) (C .opened ++ drop place s)
+
+        whole : WholeText n (treeText k (C .nodes))
+        whole = record {
+          root = k;
+          children = C .nodes;
+          tree = record { ascends = C .ascends 0 (B .tree .ascends); once = λ d. omega (arith, B .tree .once d, C .fewer d) };
+          numbers = (inside all n (length u) complete k 0 (B .children) [] stands (omega arith), C .below, tt);
+          text = refl;
+        }
+
+near-of : (n : ℕ) (s : List ℕ) (e : Refusal) → 0 < n → n ≤ 16 → (F : Fault n s e) → Near n s (F .place)
+near-of n s e h n16 F =
+    let O = opening-of n s (F .place) h n16 (F .inside) (F .begins) in
+    let G = greatest (λ p. Written n (take p s)) (λ p. written-or-not n (take p s) n16) (O .from) (F .place) (O .written) (O .before) in
+    record {
+      last = G .last;
+      written = G .holds;
+      longest = λ p l w. G .most p (F .longest p l (begins-written n (take p s) w)) w;
+      from = O .from;
+      before = G .before;
+      after = G .after;
+      opened = O .opened;
+    }
+
 pub first-fault : FirstFault
 first-fault = record {
   refused = refused-at;
@@ -295,5 +397,6 @@ first-fault = record {
     λ a. subst (WholeText n) (sym (read-exact .is-text n s a)) (tree-of n (readOf n s .engager) (readOf n s .root) (read-exact .is-tree n s a)),
     λ W. whole-read n s W h n16,
   );
-  written = λ n e root u rest T is. begins-with n (textOf e root) (tree-of n e root T) u rest is;
+  written = λ n e root u rest T is. begins-written n u (record { engagers = e; root = root; rest = rest; tree = T; text = is });
+  near = near-of;
 }
