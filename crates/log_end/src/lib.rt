@@ -7,9 +7,10 @@ use tree_writer::put_tree;
 ghost use Prim.Native.Nat.{_+_, _≤_};
 ghost use lib.ListN.{length};
 ghost use Rattle.log_rules.specs.Answers.{ringEnd, treeEnd};
-ghost use Rattle.ring.specs.View.{state};
+ghost use Rattle.ring.specs.View as ringView;
+ghost use Rattle.ring_rules.specs.Soundness as ringSound;
 ghost use Rattle.tree.specs.View as treeView;
-ghost use Rattle.tree_rules.specs.Soundness.{Sound};
+ghost use Rattle.tree_rules.specs.Soundness as treeSound;
 ghost use Rattle.log_end.specs.Ends.{ringText, Short};
 
 // `(end (boards 2) (holder 0) (moves 4) (flight 0) (black 0))`
@@ -34,8 +35,8 @@ fn put_counts(
 }
 
 pub fn put_ring_end(out: &mut [u8], at: usize, ring: Ring, moves: u64) -> usize
-    requires { ⌜ at + 256 ≤ length (now out) ⌝ }
-    ensures { λ r. ⌜ Short (now (out .entry)) at (ringEnd (state ring) moves) r (now (out .exit)) ⌝ }
+    requires { ⌜ (at + 256 ≤ length (now out)) × ringSound.Sound (ringView.state ring) ⌝ }
+    ensures { λ r. ⌜ Short (now (out .entry)) at (ringEnd (ringView.state ring) moves) r (now (out .exit)) ⌝ }
 {
     let flight = ring_check::sum_to(&ring.pending, 96);
     let color = ring.color;
@@ -53,7 +54,7 @@ pub fn put_ring_end(out: &mut [u8], at: usize, ring: Ring, moves: u64) -> usize
 
 // `(end (boards 3) (engaged (0)) (acks 0))`
 pub fn put_tree_end(out: &mut [u8], at: usize, tree: Tree) -> usize
-    requires { ⌜ (at + 256 ≤ length (now out)) × Sound (treeView.state tree) ⌝ }
+    requires { ⌜ (at + 256 ≤ length (now out)) × treeSound.Sound (treeView.state tree) ⌝ }
     ensures { λ r. ⌜ Short (now (out .entry)) at (treeEnd (treeView.state tree)) r (now (out .exit)) ⌝ }
 {
     let acks = tree_check::sum_of(&tree.acks);

@@ -4,10 +4,11 @@ use borrow.Author.Tests.{le-ltb, lt-ltb}
 use lib.ListN.{length}
 use mathlib.Core.List.{List, [], _++_, append-nil}
 use mathlib.Core.Logic.{_⊎_, inl, inr}
-use mathlib.Core.Path.{_∙_, _≡_, ap, subst⁻¹}
+use mathlib.Core.Path.{_∙_, _≡_, ap, subst, subst⁻¹}
 use native.Mathlib.Omega.{arith}
+use Rattle.log_first.specs.Open.{SoundStage, stageBy}
 use Rattle.log_held.proofs.Held.{held-least}
-use Rattle.log_held.specs.Feed.{stageOf}
+use Rattle.log_held.specs.Feed.{Good, stageOf}
 use Rattle.log_held.specs.declared.Log.{Log}
 use Rattle.log_rules.proofs.Cuts.{rest-cut, rest-done, rest-full}
 use Rattle.log_rules.specs.Lines.{lineLimit}
@@ -17,6 +18,7 @@ use Rattle.log_text.specs.Wrote.{Wrote}
 use Rattle.refusal.specs.declared.Refusal.the-variants.{NotAForm}
 use Rattle.refusal.specs.declared.Verdict.the-variants.{Refused}
 use Rattle.log_finish.specs.Finish.{Finished, cutText}
+use Rattle.log_first.specs.declared.Stage as code
 use Rattle.log_rules.specs.Answers as rules
 use Rattle.decimal.proofs.Cases as cases
 
@@ -58,6 +60,11 @@ module _ (line : List ℕ) (k len : ℕ) (places : length line ≡ 700) (part : 
       (λ e. rest-done rules.fresh k)
       (λ h n. rest-full rules.fresh k h (heldOf line len) [])
       (λ h s. rest-cut rules.fresh k part s h ∙ append-nil (rules.answerText 1 (Refused NotAForm)))
+
+-- the state of the run that a log's stage names is sound
+pub sound-as : {l : Log} {line : List ℕ} {x : code.Stage} → Good l line → l .stage ≡ x
+    → SoundStage (stageBy x (l .ring) (l .moves) (l .tree)) (l .lines)
+sound-as {l} good e = subst (λ (x : code.Stage). SoundStage (stageBy x (l .ring) (l .moves) (l .tree)) (l .lines)) e (good .sound)
 
 pub finished : (l : Log) (line : List ℕ) {st : rules.Stage} {t : List ℕ} {r : ℕ} {out out′ : List ℕ} → stageOf l ≡ st
     → restOf st (l .lines) (heldOf line (l .len)) [] ≡ t → Wrote out 0 t r out′ → r ≤ length out → Finished l line r out out′

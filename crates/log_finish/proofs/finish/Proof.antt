@@ -1,15 +1,15 @@
 use borrow.Author.Needs.{needs}
 use mathlib.Core.List.{[]}
-use mathlib.Core.Path.{ap, refl, subst}
+use mathlib.Core.Path.{ap, refl}
 use native.Mathlib.Omega.{arith}
 use Rattle.decimal.specs.Text.{put}
-use Rattle.log_first.specs.Open.{SoundStage, stageBy}
+use Rattle.log_first.specs.Open.{stageBy}
 use Rattle.log_rules.proofs.Cuts.{rest-over}
 use Rattle.log_rules.specs.Pieces.{heldOf}
 use Rattle.log_text.proofs.Texts.{answer-short, wrote-then}
 use Rattle.refusal.specs.declared.Refusal.the-variants.{NotAForm}
 use Rattle.refusal.specs.declared.Verdict.the-variants.{Refused}
-use Rattle.log_finish.proofs.Texts.{finished, fresh-end, run-end}
+use Rattle.log_finish.proofs.Texts.{finished, fresh-end, run-end, sound-as}
 use Rattle.log_finish.proofs.finish.Statement.{statement}
 use Rattle.log_first.specs.declared.Stage as code
 use Rattle.log_rules.specs.Answers as rules
@@ -30,7 +30,14 @@ put-cut-requires : tie.Need-put-cut-requires
 put-cut-requires c κs = search needs
 
 put-ring-end-requires : tie.Need-put-ring-end-requires
-put-ring-end-requires c κs = search needs
+put-ring-end-requires c κs =
+    let at-put-cut = c .before .before .before .before in
+    let at-enum-told2 = at-put-cut .before .before in
+    let start = at-enum-told2 .before .before .before .before in
+    let p = start .pre in (
+      omega (arith, p .1, at-put-cut .put-cut .ensures .1, at-put-cut .put-cut .kept),
+      sound-as (p .0) (at-enum-told2 .enum-told2 .given .1) .0,
+    )
 
 enum-told-3 : tie.Need-enum-told-3
 enum-told-3 c = search needs
@@ -43,10 +50,9 @@ put-tree-end-requires c κs =
     let at-put-cut2 = c .before .before .before .before in
     let at-enum-told3 = at-put-cut2 .before .before in
     let start = at-enum-told3 .before .before .before .before in
-    let p = start .pre in let l = start .args .log in (
+    let p = start .pre in (
       omega (arith, p .1, at-put-cut2 .put-cut2 .ensures .1, at-put-cut2 .put-cut2 .kept),
-      subst
-          (λ (x : code.Stage). SoundStage (stageBy x (l .ring) (l .moves) (l .tree)) (l .lines)) (at-enum-told3 .enum-told3 .given .1) (p .0 .sound),
+      sound-as (p .0) (at-enum-told3 .enum-told3 .given .1),
     )
 
 enum-told-4 : tie.Need-enum-told-4
