@@ -11,7 +11,7 @@ use Rattle.decimal.specs.Text.{decimal, digits}
 use Rattle.first_line.specs.Start.{bare}
 use Rattle.forms.proofs.Lines.{line-rest}
 use Rattle.forms.specs.Form.{Says, bareRing, formText}
-use Rattle.laws.proofs.Tests.{both, false-true, one-of}
+use Rattle.laws.proofs.Tests.{both, both-true, false-true, neither, one-of, right-true}
 use Rattle.log_rules.proofs.Cuts.{rest-cut, rest-done, rest-full, rest-held, rest-more, rest-over}
 use Rattle.log_rules.proofs.Ends.{ended-append, ended-long, form-ended, line-ended, no-line, unended-append}
 use Rattle.log_rules.proofs.Theorems.{lines-say}
@@ -26,6 +26,33 @@ use Rattle.log_held.specs.Theorems.{Settled}
 use Rattle.log_rules.specs.Answers as rules
 use Rattle.forms.specs.Form as forms
 use Rattle.decimal.proofs.Cases as cases
+
+-- ---- a line that is too long
+
+not-false : (t : Bool) → (t ≡ false → ⊥) → t ≡ true
+not-false true n = refl
+not-false false n = absurd (n refl)
+
+module _ (k len : ℕ) (many : lineBytes ≤ len) where
+  long-test : tooLong len ≡ true
+  long-test = not-false (tooLong len) (λ e. omega (arith, leb-false))
+
+  first-long : decidedBy rules.fresh k len ≡ true
+  first-long = right-true (allAnswered k) long-test
+
+  last-long : (s : rules.Stage) → lineLimit ≤ k + 1 → decidedBy s k len ≡ true
+  last-long s last = go s
+    where
+      last-test : lastIsNext k ≡ true
+      last-test = not-false (lastIsNext k) (λ e. omega (arith, leb-false))
+
+      go : (s : rules.Stage) → decidedBy s k len ≡ true
+      go rules.fresh = first-long
+      go (rules.onRing r m) = right-true (allAnswered k) (both-true long-test last-test)
+      go (rules.onTree t) = right-true (allAnswered k) (both-true long-test last-test)
+      go rules.over = refl
+
+-- ---- a log that is decided
 
 by-test : {P : Type 0} (a b : Bool) → (a || b) ≡ true → (a ≡ true → P) → (b ≡ true → P) → P
 by-test a b e f g = ⊎-elim f g (one-of a b e)
@@ -90,10 +117,6 @@ module _ (line : List ℕ) (k len : ℕ) (places : length line ≡ 700) (part : 
 
 -- ---- a log that is not decided
 
-neither : (a b : Bool) → (a || b) ≡ false → a ≡ false
-neither true b e = e
-neither false b e = refl
-
 -- a first line that is accepted is answered, and not refused
 first-open : (k : ℕ) → k < lineLimit → restOf rules.fresh k [] (formText (bareRing 1)) ≡ restOf rules.fresh k [] [] → ⊥
 unfolding decimal digits
@@ -115,9 +138,9 @@ line-open s k h stays e =
     omega (arith, z, length-append (rules.answerText (k + 1) (Refused NotAForm)) (rules.endText s))
 
 open-at : (s : rules.Stage) (k : ℕ) → decidedBy s k 0 ≡ false → (rest : List ℕ) × (restOf s k [] rest ≡ restOf s k [] [] → ⊥)
-open-at rules.fresh k e = (formText (bareRing 1), first-open k (leb-false lineLimit k (neither _ _ e)))
-open-at (rules.onRing r m) k e = (0 ∷ [], line-open (rules.onRing r m) k (leb-false lineLimit k (neither _ _ e)) refl)
-open-at (rules.onTree t) k e = (0 ∷ [], line-open (rules.onTree t) k (leb-false lineLimit k (neither _ _ e)) refl)
+open-at rules.fresh k e = (formText (bareRing 1), first-open k (leb-false lineLimit k (neither _ _ e .0)))
+open-at (rules.onRing r m) k e = (0 ∷ [], line-open (rules.onRing r m) k (leb-false lineLimit k (neither _ _ e .0)) refl)
+open-at (rules.onTree t) k e = (0 ∷ [], line-open (rules.onTree t) k (leb-false lineLimit k (neither _ _ e .0)) refl)
 open-at rules.over k e = absurd (false-true (sym e))
 
 pub settled : Settled
@@ -127,6 +150,8 @@ settled = record {
       let left : ℕ → List ℕ → List ℕ = λ n rest. restOf (stageOf l) (l .lines) (heldOf line n) rest in
       subst⁻¹ (λ (n : ℕ). (rest : List ℕ) × (left n rest ≡ left n [] → ⊥)) unheld
       (open-at (stageOf l) (l .lines) (subst (λ (n : ℕ). decidedBy (stageOf l) (l .lines) n ≡ false) unheld e));
+  long-first = λ l e many. subst⁻¹ (λ (s : rules.Stage). decidedBy s (l .lines) (l .len) ≡ true) e (first-long (l .lines) (l .len) many);
+  long-last = λ l last many. last-long (l .lines) (l .len) many (stageOf l) last;
   nothing = λ l line rest e.
       ap (λ (s : rules.Stage). restOf s (l .lines) (heldOf line (l .len)) rest) e ∙ rest-over (l .lines) (heldOf line (l .len)) rest;
 }
