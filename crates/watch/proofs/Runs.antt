@@ -1,18 +1,20 @@
 -- What turns come to, one after the other. Assumes nothing.
 use Prim.Native.Nat.{_-_, _<_, ℕ}
+use Rattle.io.specs.Counts.{clamped}
 use borrow.Author.Tests.{eqb-false, lt-ltb}
 use lib.IntN.{negsuc, pos, ℤ}
+use lib.ListN.{length}
 use lib.Signed.{ltZ}
 use mathlib.Core.Bool.{Bool, _&&_, _||_, false, not, true}
 use mathlib.Core.List.{List, [], _++_, _∷_, append-nil}
-use mathlib.Core.Path.{_∙_, _≡_, refl, subst, subst⁻¹, sym}
+use mathlib.Core.Path.{_∙_, _≡_, ap, refl, subst, subst⁻¹, sym}
 use native.Mathlib.Omega.{arith}
 use Rattle.laws.proofs.Tests.{false-true}
 use Rattle.log_finish.specs.Theorems.{Feeds, no-piece, piece}
 use Rattle.log_held.specs.Feed.{Good, decided}
 use Rattle.log_held.specs.declared.Log.{Log}
 use Rattle.watch.specs.Run.{Pumped, Turns, another, isEnd, last, pieceOf, ran-out, textOf}
-use Rattle.watch.specs.Turn.{Turned}
+use Rattle.watch.specs.Turn.{Answers, Turned}
 use Rattle.watch.specs.declared.Step.{Step}
 
 pub no-turns-left : (n : ℕ) (l : Log) (line : List ℕ) → n ≡ 0 → Good l line
@@ -20,6 +22,23 @@ pub no-turns-left : (n : ℕ) (l : Log) (line : List ℕ) → n ≡ 0 → Good l
 no-turns-left n l line none good =
     subst⁻¹ (λ (m : ℕ). Pumped m l line (record { log = l; count = 0; more = false; failed = true }) line) none
     (record { pieces = []; texts = []; end = false; turns = ran-out; fed = no-piece; good = good })
+
+-- ---- what a turn's step says
+
+module _ {l : Log} {buffer line line′ out out′ : List ℕ} {s : Step} (t : Turned l buffer s line line′ out out′) where
+  pub answered-by : Answers l (clamped (t .got) (length buffer)) buffer s line line′ out out′
+  answered-by =
+      subst⁻¹ (λ (x : Step). Answers l (clamped (t .got) (length buffer)) buffer x line line′ out out′) (t .turned) (t .answered .answers)
+
+  more-by : s .more ≡ ((ltZ (pos 0) (t .got) && not (decided (s .log))) && t .written)
+  more-by =
+      subst⁻¹ (λ (x : Step). x .more ≡ ((ltZ (pos 0) (t .got) && not (decided (x .log))) && t .written)) (t .turned)
+      (ap (λ (b : Bool). b && t .written) (t .answered .more))
+
+  failed-by : s .failed ≡ (ltZ (t .got) (pos 0) || not (t .written))
+  failed-by = ap (λ (x : Step). x .failed) (t .turned) ∙ ap (λ (b : Bool). b || not (t .written)) (t .answered .failed)
+
+-- ---- one turn after the other
 
 module _ {n : ℕ} {l : Log} {buffer line line₁ out out₁ : List ℕ} {s₁ : Step} (some : 0 < n) (t : Turned l buffer s₁ line line₁ out out₁) where
   pub last-turn : s₁ .more ≡ false → Pumped n l line s₁ line₁
@@ -30,8 +49,8 @@ module _ {n : ℕ} {l : Log} {buffer line line₁ out out₁ : List ℕ} {s₁ :
     turns = last some t e;
     fed =
         subst (λ (x : List ℕ). Feeds l line (pieceOf t ∷ []) x (s₁ .log) line₁) (append-nil (textOf t))
-        (piece (record { log = s₁ .log; count = s₁ .count }) (t .answers) no-piece);
-    good = t .answers .good;
+        (piece (record { log = s₁ .log; count = s₁ .count }) (answered-by t) no-piece);
+    good = answered-by t .good;
   }
 
   pub one-more : s₁ .more ≡ true → (s : Step) (line′ : List ℕ) → Pumped (n - 1) (s₁ .log) line₁ s line′ → Pumped n l line s line′
@@ -40,7 +59,7 @@ module _ {n : ℕ} {l : Log} {buffer line line₁ out out₁ : List ℕ} {s₁ :
     texts = textOf t ++ later .texts;
     end = later .end;
     turns = another some t e (later .turns);
-    fed = piece (record { log = s₁ .log; count = s₁ .count }) (t .answers) (later .fed);
+    fed = piece (record { log = s₁ .log; count = s₁ .count }) (answered-by t) (later .fed);
     good = later .good;
   }
 
@@ -64,6 +83,6 @@ pub decided-then : {n : ℕ} {l : Log} {line line′ texts : List ℕ} {ps : Lis
     → s .failed ≡ false → end ≡ false → decided (s .log) ≡ true
 decided-then ran-out f g = absurd (false-true (sym f))
 decided-then {s = s} (last some t e) f g =
-    no-more (ltZ (pos 0) (t .got)) (decided (s .log)) (t .written) (ltZ (t .got) (pos 0)) (sym (t .more) ∙ e) (sym (t .failed) ∙ f)
+    no-more (ltZ (pos 0) (t .got)) (decided (s .log)) (t .written) (ltZ (t .got) (pos 0)) (sym (more-by t) ∙ e) (sym (failed-by t) ∙ f)
     (gave-bytes (t .got) g)
 decided-then (another some t e later) f g = decided-then later f g

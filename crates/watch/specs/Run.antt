@@ -15,7 +15,7 @@ use Rattle.log_rules.specs.Output.{outputOf}
 use Rattle.watch.specs.Turn.{Turned}
 use Rattle.watch.specs.declared.Step.{Step}
 
--- read answers 0 at the end of the input
+-- read, into a buffer that is not empty, answers 0 at the end of the input
 abbrev pub isEnd : ℤ → Bool
 isEnd (pos k) = eqb k 0
 isEnd (negsuc k) = false
@@ -24,16 +24,16 @@ isEnd (negsuc k) = false
 abbrev pub turnLimit : ℕ
 turnLimit = 18446744073709551615
 
--- the piece that a turn has answered, and what it has handed to write
+-- the piece that a turn has answered, and its answers, which `one_piece` hands to write
 abbrev pub pieceOf : {l : Log} {buffer line line′ out out′ : List ℕ} {s : Step} → Turned l buffer s line line′ out out′ → List ℕ
 pieceOf {buffer = buffer} t = take (clamped (t .got) (length buffer)) buffer
 
 abbrev pub textOf : {l : Log} {buffer line line′ out out′ : List ℕ} {s : Step} → Turned l buffer s line line′ out out′ → List ℕ
 textOf {out′ = out′} {s = s} t = take (s .count) out′
 
--- The turns of the program, at most n, from a log on, with the buffer of the line that is held: the pieces, what was handed to write for
--- them, joined, whether the last read told the end of the input, and what the last turn came to. A turn is followed by another exactly if
--- it says `more`; that turns run out is a failure.
+-- The turns of the program, at most n, from a log on, with the buffer of the line that is held: the pieces, their answers, joined, whether
+-- the last turn's `got` told the end of the input, and what the last turn came to. A turn is followed by another exactly if it says `more`;
+-- that turns run out is a failure. That each turn is a call of `one_piece` is read off `pump`.
 pub data Turns : ℕ → Log → List ℕ → List (List ℕ) → List ℕ → Bool → Step → List ℕ → Type 0 where
   ran-out : {l : Log} {line : List ℕ} → Turns 0 l line [] [] false (record { log = l; count = 0; more = false; failed = true }) line
   last : {n : ℕ} {l : Log} {buffer line line′ out out′ : List ℕ} {s : Step} → 0 < n → (t : Turned l buffer s line line′ out out′)
@@ -51,8 +51,9 @@ pub record Pumped (n : ℕ) (l : Log) (line : List ℕ) (s : Step) (line′ : Li
   pub fed : Feeds l line pieces texts (s .log) line′
   pub good : Good (s .log) line′
 
--- The program up to its last write, of the first `count` bytes of `out`: unless something failed, all that is handed to write is the output of
--- the pieces that were read, and, if the input has not ended, of everything that begins with them. Where something failed, no more is written.
+-- The program up to its last write, which `main` makes, of the first `count` bytes of `out`. Unless something failed, the answers of all turns
+-- and then these bytes are the output of the pieces, and, if the input has not ended, of everything that begins with them. Where something
+-- failed, there are no such bytes. That the pieces are the input's bytes, and that bytes handed to write come out, is said nowhere.
 pub record Ran (s : Step) (out : List ℕ) : Type 0 where
   pub first : Log
   pub start : (stageOf first ≡ fresh) × (first .lines ≡ 0) × (first .len ≡ 0)

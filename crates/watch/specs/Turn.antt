@@ -24,10 +24,15 @@ pub record Answered (l : Log) (piece : List ℕ) (got : ℤ) (s : Step) (line li
   pub more : s .more ≡ (ltZ (pos 0) got && not (decided (s .log)))
   pub failed : s .failed ≡ ltZ got (pos 0)
 
--- a turn: the bytes of some answer of read are answered, and it goes on, or has failed, as `Answered` says, unless the write failed
+-- what a step comes to, told whether all of its answers were written: where they were not, it goes on no more and has failed
+abbrev pub after : Step → Bool → Step
+after s written = record { log = s .log; count = s .count; more = s .more && written; failed = s .failed || not written }
+
+-- A turn: for some answer of read and some answer of write, the step of the one, told the other. That these are the answers of the turn's own
+-- calls, and that the first `count` bytes of `out′` are what goes to write, no contract can say: it is read off `one_piece`.
 pub record Turned (l : Log) (piece : List ℕ) (s : Step) (line line′ out out′ : List ℕ) : Type 0 where
   pub got : ℤ
-  pub answers : Answers l (clamped got (length piece)) piece s line line′ out out′
+  pub step : Step
+  pub answered : Answered l piece got step line line′ out out′
   pub written : Bool
-  pub more : s .more ≡ ((ltZ (pos 0) got && not (decided (s .log))) && written)
-  pub failed : s .failed ≡ (ltZ got (pos 0) || not written)
+  pub turned : s ≡ after step written

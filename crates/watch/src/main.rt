@@ -4,7 +4,7 @@ ghost use mathlib.Core.Path.{_≡_};
 ghost use Prim.Native.Nat.{_+_, _*_, _≤_};
 ghost use lib.ListN.{length};
 ghost use Rattle.log_held.specs.Feed.{Good};
-ghost use Rattle.watch.specs.Turn.{Answered, Turned};
+ghost use Rattle.watch.specs.Turn.{Answered, after, Turned};
 ghost use Rattle.watch.specs.Run.{turnLimit, Pumped, Ran};
 
 // The log after a piece, how many bytes of answers go to write, whether to go on, and whether a read or a write failed.
@@ -32,9 +32,23 @@ fn answer(log: Log, piece: &[u8], got: isize, line: &mut [u8], out: &mut [u8]) -
     }
 }
 
-// One read, its lines, and one write. A contract does not name the calls inside: that read's own answer and buffer are answered, and that the
-// first `count` bytes of `out` go to write, is read off the body. What the contracts of read and write leave open: that the bytes in the
-// buffer are the input's, and that those handed to write are put out.
+// What a step comes to, told whether all of its answers were written.
+fn turned(s: Step, written: bool) -> Step
+    ensures { λ r. ⌜ r ≡ after s written ⌝ }
+{
+    let log = s.log;
+    Step {
+        log,
+        count: s.count,
+        more: s.more & written,
+        failed: s.failed | !written,
+    }
+}
+
+// One read, its lines, and one write. A contract does not name the calls inside; left to reading the body are three things: that `got` is the
+// answer of this read into `piece`, that `&out[..count]`, with the count of the step that `answer` made, goes to write, and that `written` is
+// this write's answer. What the contracts of read and write leave open: that the bytes in the buffer are the input's, and that those handed
+// to write are put out.
 fn one_piece(log: Log, piece: &mut [u8], line: &mut [u8], out: &mut [u8]) -> Step
     requires { ⌜ Good log (now line) × ((length (now piece) + 700) * 16 ≤ length (now out)) ⌝ }
     ensures { λ s. ⌜ Turned log (now (piece .exit)) s (now (line .entry)) (now (line .exit)) (now (out .entry)) (now (out .exit)) ⌝ }
@@ -43,13 +57,7 @@ fn one_piece(log: Log, piece: &mut [u8], line: &mut [u8], out: &mut [u8]) -> Ste
     let s = answer(log, piece, got, line, out);
     let count = s.count;
     let written = io::write_all(libc::STDOUT_FILENO, &out[..count]);
-    let after = s.log;
-    Step {
-        log: after,
-        count,
-        more: s.more & written,
-        failed: s.failed | !written,
-    }
+    turned(s, written)
 }
 
 // All pieces. A proved loop has to end, and nothing says that the input does: the turns are counted down from a number that no run uses up.
@@ -108,6 +116,7 @@ fn answers() -> [u8; 1059776]
     [0; 1059776]
 }
 
+// Left to reading: that the first `count` bytes of `out` go to write after the last turn, and that a failure is told.
 fn main() {
     let mut piece = io::large_buffer();
     let mut line = [0u8; 700];

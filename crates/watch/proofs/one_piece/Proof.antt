@@ -1,6 +1,5 @@
 use borrow.Author.Needs.{needs, sfits-of}
 use lib.Seq.{length-take-le}
-use mathlib.Core.Bool.{_&&_, _||_, not}
 use mathlib.Core.Path.{sym}
 use mir.Facts.{toZ-ofZ}
 use mir.Syntax.{w64}
@@ -26,9 +25,13 @@ slice-aggregate-write-all c =
 write-all-requires : tie.Need-write-all-requires
 write-all-requires c κs = search needs
 
+turned-requires : tie.Need-turned-requires
+turned-requires c κs = search needs
+
 same-length : tie.Need-same-length
 same-length c =
-    let at-read = c .before .before .before .before .before .before .before .before .before .before .before .before .before .before .before in
+    let at-answer = c .before .before .before .before .before .before .before in
+    let at-read = at-answer .before .before .before .before .before .before in
     at-read .read .kept .1 .0
 
 same-length-2 : tie.Need-same-length-2
@@ -39,16 +42,16 @@ same-length-3 c = search needs
 
 returns : tie.Need-returns
 returns c =
-    let at-answer = c .before .before .before .before .before .before .before .before .before in
+    let at-write = c .before in
+    let at-answer = at-write .before .before .before .before .before .before in
     let at-read = at-answer .before .before .before .before .before .before in
-    let done = at-answer .answer .ensures in
     let f : SFits w64 (at-read .read .result) = sfits-of (at-read .read .ok) in
     record {
       got = at-read .read .result;
-      answers = rw (toZ-ofZ f) at (done .answers);
-      written = c .before .before .before .write-all .result;
-      more = λ x. (rw (toZ-ofZ f) at (done .more)) x && c .before .before .before .write-all .result;
-      failed = λ x. (rw (toZ-ofZ f) at (done .failed)) x || not (c .before .before .before .write-all .result);
+      step = at-answer .answer .result;
+      answered = rw (toZ-ofZ f) at (at-answer .answer .ensures);
+      written = at-write .write-all .result;
+      turned = c .turned .ensures;
     }
 
 pub one-piece-spec : {M : Type 1} → statement M
@@ -60,6 +63,7 @@ one-piece-spec =
     slice-reshare-prefix-write-all
     slice-aggregate-write-all
     write-all-requires
+    turned-requires
     same-length
     same-length-2
     same-length-3

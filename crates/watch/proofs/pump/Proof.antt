@@ -5,7 +5,7 @@ use mathlib.Core.List.{List}
 use mathlib.Core.Path.{_≡_, refl}
 use native.Mathlib.Omega.{arith}
 use Rattle.log_held.specs.Feed.{Good}
-use Rattle.watch.proofs.Runs.{last-turn, no-turns-left, one-more}
+use Rattle.watch.proofs.Runs.{answered-by, last-turn, no-turns-left, one-more}
 use Rattle.watch.proofs.pump.Statement.{statement}
 use Rattle.watch.specs.Run.{Pumped}
 use Rattle.watch.specs.declared.Step.{Step}
@@ -61,13 +61,12 @@ loop-less c = omega arith
 loop-again : tie.Need-loop-again Inv-loop μ-loop
 loop-again c =
     let at-one-piece = c .before .before .before .before .before .before .before .before .before in
-    let at-loop = at-one-piece .before .before .before .before .before in
-    let goes-on = not-false _ (c .before .if1 .left) in (
+    let at-loop = at-one-piece .before .before .before .before .before in (
       omega (arith, at-loop .loop .inv .0, at-one-piece .one-piece .kept),
       omega (arith, at-loop .loop .inv .1, at-one-piece .one-piece .kept),
       omega (arith, at-loop .loop .inv .2, at-one-piece .one-piece .kept),
-      at-one-piece .one-piece .ensures .answers .good,
-      λ s line′ p. at-loop .loop .inv .4 s line′ (one-more (omega arith) (at-one-piece .one-piece .ensures) goes-on s line′ p),
+      answered-by (at-one-piece .one-piece .ensures) .good,
+      λ s line′ p. at-loop .loop .inv .4 s line′ (one-more (omega arith) (at-one-piece .one-piece .ensures) (not-false _ (c .before .if1 .left)) s line′ p),
     )
 
 same-length-4 : tie.Need-same-length-4 Inv-loop μ-loop
