@@ -61,7 +61,7 @@ gave-bytes : (got : ℤ) → isEnd got ≡ false → ltZ got (pos 0) ≡ false �
 gave-bytes (pos k) more f = lt-ltb 0 k (omega (arith, eqb-false k 0 more))
 gave-bytes (negsuc k) more f = absurd (false-true (sym f))
 
--- a step that neither goes on nor has failed, though told of a write, did not before
+-- a step that, told of its write, neither goes on nor has failed: neither did it before
 stops : (l : Log) (n : ℕ) (more failed written : Bool) → after (record { log = l; count = n; more = more; failed = failed }) written .more ≡ false
     → after (record { log = l; count = n; more = more; failed = failed }) written .failed ≡ false → (more ≡ false) × (failed ≡ false)
 stops l n more true written m f = absurd (false-true (sym f))
