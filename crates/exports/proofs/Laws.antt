@@ -14,16 +14,17 @@ use Rattle.refusal.specs.declared.Verdict.{Verdict}
 use Rattle.refusal.specs.declared.Verdict.the-variants.{Accepted, Refused}
 use Rattle.ring_rules.proofs.Fields.{drive-keeps, nodes-kept, unmoved}
 use Rattle.ring_rules.specs.Answers.{Answer, stepOf}
-use Rattle.ring_rules.specs.Driver.{Driven, driveOf, reasonNumber}
+use Rattle.ring_rules.specs.Driver.{Driven, driveOf, reasonNumber, reasonVerdict}
 use Rattle.ring_rules.specs.State.{State}
 use Rattle.ring_rules.specs.declared.Reason.{Reason}
 use Rattle.ring_rules.specs.declared.Reason.the-variants.{Conclusive, Spent, Stopped, Waiting}
 use Rattle.tree_text.specs.Read.{readOf}
-use Rattle.tree_text.specs.Write.{bufferOf, writtenNumber, writtenOf}
+use Rattle.tree_text.specs.Write.{bufferOf, told, writeVerdict, writtenNumber, writtenOf}
 use Rattle.tree_text.specs.declared.Found.{Found}
 use Rattle.tree_text.specs.declared.Written.{Written}
-use Rattle.exports.specs.Lent.{DrivenTo, Lent, SteppedTo, driveReason, flagsTest, lent, lentOf, reasonVerdict, stateOf, stepVerdict}
-use Rattle.exports.specs.LentTree.{LentTree, ReadAs, WrittenAs, lengthAfter, treeFlagsTest, treeOf}
+use Rattle.tree_text.specs.declared.Written.the-variants.{Length, NotWritten}
+use Rattle.exports.specs.Lent.{DrivenTo, Lent, SteppedTo, driveReason, flagsTest, lent, lentOf, stateOf, stepVerdict}
+use Rattle.exports.specs.LentTree.{LentTree, ReadAs, WrittenAs, treeFlagsTest, treeOf}
 
 -- ---- a step
 
@@ -128,6 +129,19 @@ drive-accepted {l} {after} {limit} {number} {moves} {moves′} r d v p s f u w t
 
 -- ---- the text of a tree
 
+-- what the writer's answer makes of the lent length
+abbrev pub lengthBy : Written → ℕ → ℕ
+lengthBy (Length k) same = k
+lengthBy (NotWritten e) same = same
+
+number-told : (v : Verdict) (k : ℕ) → writtenNumber (told v k) ≡ codeOf v
+number-told Accepted k = refl
+number-told (Refused e) k = refl
+
+length-told : (v : Verdict) (k same : ℕ) → lengthBy (told v k) same ≡ settle v k same
+length-told Accepted k same = refl
+length-told (Refused e) k same = refl
+
 pub write-unflagged :
     {l : LentTree} {buf : List ℕ} {number length : ℕ} → treeFlagsTest l ≡ false → number ≡ 3 → WrittenAs l buf number length length buf
 write-unflagged f t = record { told = rw f t; long = rw f; bytes = rw f }
@@ -135,9 +149,15 @@ write-unflagged f t = record { told = rw f t; long = rw f; bytes = rw f }
 pub write-flagged :
     {l : LentTree} {buf buf′ : List ℕ} {number length length′ : ℕ} (w : Written) → treeFlagsTest l ≡ true
     → w ≡ writtenOf (treeOf l) buf
-    → number ≡ writtenNumber w → length′ ≡ lengthAfter w length → buf′ ≡ bufferOf (treeOf l) buf
+    → number ≡ writtenNumber w → length′ ≡ lengthBy w length → buf′ ≡ bufferOf (treeOf l) buf
     → WrittenAs l buf number length length′ buf′
-write-flagged w f e t h b = record { told = rw (f, ← e) t; long = rw (f, ← e) h; bytes = rw f b }
+unfolding writtenOf bufferOf
+write-flagged {l} {buf} {buf′} {number} {length} {length′} w f e t h b =
+    record {
+      told = rw f (t ∙ ap writtenNumber e ∙ number-told (writeVerdict (treeOf l) buf) _);
+      long = rw f (h ∙ ap (λ (x : Written). lengthBy x length) e ∙ length-told (writeVerdict (treeOf l) buf) _ length);
+      bytes = rw f b;
+    }
 
 pub read-as :
     {n number root root′ : ℕ} {s engager engager′ : List ℕ} (f : Found) → f ≡ readOf n s → number ≡ codeOf (f .verdict)

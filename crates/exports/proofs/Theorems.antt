@@ -1,24 +1,20 @@
 -- What the contracts add up to. Assumes nothing.
 use Prim.Native.Nat.{_<_, ℕ}
-use mathlib.Core.Bool.{Bool, _&&_, and-false, cond, false, true}
-use mathlib.Core.List.{List}
+use mathlib.Core.Bool.{Bool, _&&_, and-false, false}
 use mathlib.Core.Path.{_∙_, _≡_, ap, refl}
 use native.Mathlib.Omega.{arith}
 use Rattle.flag_bytes.proofs.Laws.{no-flag, no-flags}
 use Rattle.flag_bytes.specs.Flags.{areFlags, isFlag}
 use Rattle.refusal.proofs.Table.{not-both}
 use Rattle.refusal.specs.Table.{codeOf, settle}
-use Rattle.refusal.specs.declared.Refusal.the-variants.{Unsound}
 use Rattle.refusal.specs.declared.Verdict.{Verdict}
 use Rattle.refusal.specs.declared.Verdict.the-variants.{Accepted, Refused}
-use Rattle.ring_rules.specs.Driver.{reasonNumber}
+use Rattle.ring_rules.specs.Driver.{reasonNumber, reasonVerdict}
 use Rattle.ring_rules.specs.declared.Reason.{Reason}
 use Rattle.ring_rules.specs.declared.Reason.the-variants.{Conclusive, Spent, Stopped, Waiting}
 use Rattle.tree_text.specs.Read.{readOf}
-use Rattle.tree_text.specs.Write.{bufferOf, told, writeVerdict, writtenNumber, writtenOf}
-use Rattle.tree_text.specs.declared.Written.the-variants.{NotWritten}
-use Rattle.exports.specs.Lent.{Lent, driveReason, driveVerdict, flagsTest, reasonVerdict, stepVerdict}
-use Rattle.exports.specs.LentTree.{LentTree, WrittenAs, lengthAfter, treeFlagsTest, treeOf}
+use Rattle.exports.specs.Lent.{Lent, driveReason, driveVerdict, flagsTest, stepVerdict}
+use Rattle.exports.specs.LentTree.{LentTree, treeFlagsTest, writeVerdict}
 use Rattle.exports.specs.Theorems.{BytesJudged, NoFlag, NoTreeFlag, RefusalsKeep, inActive, inBlack, inClosed}
 
 -- ---- a refusal keeps
@@ -33,21 +29,6 @@ not-stopped Waiting h p = omega arith
 not-stopped Spent h p = omega arith
 not-stopped (Stopped e) h p = not-both p refl
 
-write-kept :
-    {l : LentTree} {buf buf′ : List ℕ} {number length length′ : ℕ} → WrittenAs l buf number length length′ buf′ → (number ≡ 0 → ⊥)
-    → (length′ ≡ length) × (buf′ ≡ buf)
-unfolding bufferOf writtenOf
-write-kept {l} {buf} {buf′} {number} {length} {length′} w h =
-    go _ _ (treeFlagsTest l) (writeVerdict (treeOf l) buf) (w .told) (w .long) (w .bytes)
-  where
-    go :
-        (k : ℕ) (next : List ℕ) (f : Bool) (v : Verdict) → number ≡ writtenNumber (cond f (told v k) (NotWritten Unsound))
-        → length′ ≡ lengthAfter (cond f (told v k) (NotWritten Unsound)) length → buf′ ≡ cond f (settle v next buf) buf
-        → (length′ ≡ length) × (buf′ ≡ buf)
-    go k next false v t m b = (m, b)
-    go k next true Accepted t m b = absurd (h t)
-    go k next true (Refused e) t m b = (m, b)
-
 pub refusals-keep : RefusalsKeep
 refusals-keep =
     record {
@@ -57,7 +38,11 @@ refusals-keep =
             s .made ∙ kept (driveVerdict l limit) _ _ v,
             s .fields ∙ kept (driveVerdict l limit) _ _ v,
           );
-      write = write-kept;
+      write = λ {l} {buf} w h.
+          let v : writeVerdict l buf ≡ Accepted → ⊥ = λ p. h (w .told ∙ ap codeOf p) in (
+            w .long ∙ kept (writeVerdict l buf) _ _ v,
+            w .bytes ∙ kept (writeVerdict l buf) _ _ v,
+          );
       read = λ {n} {number} {root} {root′} {s} r h.
           let v : readOf n s .verdict ≡ Accepted → ⊥ = λ p. h (r .told ∙ ap codeOf p) in (
             r .engagers ∙ kept (readOf n s .verdict) _ _ v,

@@ -9,13 +9,13 @@ use Rattle.flag_bytes.specs.Flags.{areFlags, byteOf, bytesOf, flagOf, flagsOf, 
 use Rattle.refusal.specs.Table.{codeOf, settle}
 use Rattle.refusal.specs.declared.Refusal.the-variants.{Unsound}
 use Rattle.refusal.specs.declared.Verdict.{Verdict}
-use Rattle.refusal.specs.declared.Verdict.the-variants.{Accepted, Refused}
+use Rattle.refusal.specs.declared.Verdict.the-variants.{Refused}
 use Rattle.ring_rules.specs.Answers.{stepOf}
-use Rattle.ring_rules.specs.Driver.{driveOf, reasonNumber}
+use Rattle.ring_rules.specs.Driver.{driveOf, reasonNumber, reasonVerdict}
 use Rattle.ring_rules.specs.Soundness.{soundTest}
 use Rattle.ring_rules.specs.State.{State}
 use Rattle.ring_rules.specs.declared.Reason.{Reason}
-use Rattle.ring_rules.specs.declared.Reason.the-variants.{Conclusive, Spent, Stopped, Waiting}
+use Rattle.ring_rules.specs.declared.Reason.the-variants.{Stopped}
 
 pub record Lent : Type 0 where
   pub n : ℕ
@@ -90,26 +90,35 @@ soundNumber l = byteOf (flagsTest l && soundTest (stateOf l))
 abbrev pub stepVerdict : Lent → ℕ → ℕ → ℕ → Verdict
 stepVerdict l kind i j = cond (flagsTest l) (stepOf (stateOf l) kind i j .verdict) (Refused Unsound)
 
+abbrev pub stepNumber : Lent → ℕ → ℕ → ℕ → ℕ
+stepNumber l kind i j = codeOf (stepVerdict l kind i j)
+
+abbrev pub stepFields : Lent → ℕ → ℕ → ℕ → Lent
+stepFields l kind i j = settle (stepVerdict l kind i j) (lentOf (stepOf (stateOf l) kind i j .state)) l
+
 pub record SteppedTo (l : Lent) (kind i j number : ℕ) (after : Lent) : Type 0 where
-  pub told : number ≡ codeOf (stepVerdict l kind i j)
-  pub fields : after ≡ settle (stepVerdict l kind i j) (lentOf (stepOf (stateOf l) kind i j .state)) l
+  pub told : number ≡ stepNumber l kind i j
+  pub fields : after ≡ stepFields l kind i j
 
 -- ---- the driver: the number of its reason, its moves, and the fields afterwards
 
 abbrev pub driveReason : Lent → ℕ → Reason
 driveReason l limit = cond (flagsTest l) (driveOf (stateOf l) limit .reason) (Stopped Unsound)
 
--- the driver is refused where it is stopped
-abbrev pub reasonVerdict : Reason → Verdict
-reasonVerdict Conclusive = Accepted
-reasonVerdict Waiting = Accepted
-reasonVerdict Spent = Accepted
-reasonVerdict (Stopped e) = Refused e
-
 abbrev pub driveVerdict : Lent → ℕ → Verdict
 driveVerdict l limit = reasonVerdict (driveReason l limit)
 
+abbrev pub driveNumber : Lent → ℕ → ℕ
+driveNumber l limit = reasonNumber (driveReason l limit)
+
+-- the moves made; where the driver is refused, `same`, which was lent
+abbrev pub driveMoves : Lent → ℕ → ℕ → ℕ
+driveMoves l limit same = settle (driveVerdict l limit) (driveOf (stateOf l) limit .moves) same
+
+abbrev pub driveFields : Lent → ℕ → Lent
+driveFields l limit = settle (driveVerdict l limit) (lentOf (driveOf (stateOf l) limit .state)) l
+
 pub record DrivenTo (l : Lent) (limit number moves moves′ : ℕ) (after : Lent) : Type 0 where
-  pub told : number ≡ reasonNumber (driveReason l limit)
-  pub made : moves′ ≡ settle (driveVerdict l limit) (driveOf (stateOf l) limit .moves) moves
-  pub fields : after ≡ settle (driveVerdict l limit) (lentOf (driveOf (stateOf l) limit .state)) l
+  pub told : number ≡ driveNumber l limit
+  pub made : moves′ ≡ driveMoves l limit moves
+  pub fields : after ≡ driveFields l limit

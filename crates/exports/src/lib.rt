@@ -10,7 +10,8 @@ ghost use mathlib.Core.Path.{_≡_};
 ghost use mathlib.Core.Bool.{_&&_};
 ghost use Rattle.flag_bytes.specs.Flags.{areFlags, isFlag};
 ghost use Rattle.ring.specs.View.{state};
-ghost use Rattle.exports.specs.Lent.{lent, stateOf, soundNumber, reasonVerdict, SteppedTo, DrivenTo};
+ghost use Rattle.ring_rules.specs.Driver.{reasonVerdict};
+ghost use Rattle.exports.specs.Lent.{lent, stateOf, soundNumber, SteppedTo, DrivenTo};
 ghost use Rattle.exports.specs.LentTree.{lentTree, WrittenAs, ReadAs};
 
 // Are the bytes of a lent ring's truths each 0 or 1?
