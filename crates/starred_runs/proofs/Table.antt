@@ -5,7 +5,8 @@ use mathlib.Core.Path.{_≡_}
 use Rattle.laws.proofs.Tests.{both, both-true}
 use Rattle.starred_runs.specs.Case.{Case, allPass, passes}
 use Rattle.starred_runs.specs.TableRuns.{runs}
-use Rattle.starred_runs.specs.Table.{AllPass, refusals, rings, table, trees, written}
+use Rattle.starred_runs.specs.Table.{AllPass, calls, refusals, rings, table, trees, written}
+use Rattle.starred_runs.proofs.Calls.{calls-pass}
 use Rattle.starred_runs.proofs.Refusals.{refusals-pass}
 use Rattle.starred_runs.proofs.Runs.{runs-pass}
 use Rattle.starred_runs.proofs.Soundness.{rings-pass, trees-pass}
@@ -20,6 +21,7 @@ joined (c ∷ cs) ds h k =
 pub all-pass : AllPass
 unfolding table
 all-pass =
-    joined runs (rings ++ (trees ++ (refusals ++ written))) runs-pass
-    (joined rings (trees ++ (refusals ++ written)) rings-pass
-    (joined trees (refusals ++ written) trees-pass (joined refusals written refusals-pass written-pass)))
+    joined runs (rings ++ (trees ++ (refusals ++ (written ++ calls)))) runs-pass
+    (joined rings (trees ++ (refusals ++ (written ++ calls))) rings-pass
+    (joined trees (refusals ++ (written ++ calls)) trees-pass
+    (joined refusals (written ++ calls) refusals-pass (joined written calls written-pass calls-pass))))

@@ -9,6 +9,8 @@ use mathlib.Core.Bool.{Bool, _&&_, _||_, cond, false, not, true}
 use mathlib.Core.List.{List, [], _++_, _∷_}
 use Rattle.color.specs.Colors.{blackened, isBlack, whitened}
 use Rattle.decimal.specs.Bytes.{bytes}
+use Rattle.exports.specs.Lent.{Lent, driveFields, driveMoves, driveNumber, soundNumber, stepFields, stepNumber}
+use Rattle.exports.specs.LentTree.{LentTree, readEngagers, readNumber, readRoot, writeBuffer, writeLength, writeNumber}
 use Rattle.laws.specs.Places.{allTo}
 use Rattle.log_rules.specs.Output.{outputOf}
 use Rattle.refusal.specs.Table.{codeOf, numberOf}
@@ -17,7 +19,7 @@ use Rattle.ring_rules.specs.Driver.{driveOf, reasonNumber}
 use Rattle.ring_rules.specs.declared.Reason.{Reason}
 use Rattle.ring_rules.specs.declared.Reason.the-variants.{Conclusive, Spent, Waiting}
 use Rattle.runs.specs.Runs.{Request, acceptedOf, runOf}
-use Rattle.signed.specs.Integers.{isPositive}
+use Rattle.signed.specs.Integers.{isPositive, isSame}
 use Rattle.tree_rules.specs.Termination.{acksTotal, engagedOthers}
 use Rattle.tree_text.specs.Read.{readOf}
 use Rattle.tree_text.specs.Text.{textOf}
@@ -96,6 +98,15 @@ pub data Case : Type 0 where
   black-by : ℕ → ℕ → ℕ → Case
   -- the ring's color bytes
   colors : ring.State → List ℕ → Case
+  -- from other languages: of a lent ring, the number that a step of this kind and these nodes is answered with, and the fields after it;
+  -- the number of its soundness; of a driver with this limit, the count of moves before it, its number, and the count and the fields after it
+  lent-step : Lent → ℕ → ℕ → ℕ → ℕ → Lent → Case
+  lent-sound : Lent → ℕ → Case
+  lent-drive : Lent → ℕ → ℕ → ℕ → ℕ → Lent → Case
+  -- of a lent tree, the buffer and the length before, the number of the answer, and the length and the buffer after; of n nodes and a text,
+  -- the engagers and the root before, the number of the answer, and the engagers and the root after
+  lent-write : LentTree → List ℕ → ℕ → ℕ → ℕ → List ℕ → Case
+  lent-read : ℕ → String → List ℕ → ℕ → ℕ → List ℕ → ℕ → Case
 
 -- ---- what each asks of the definitions
 
@@ -247,6 +258,19 @@ blackBy i k v =
     sameList (blackened white i) (set white k v)
     && (allTo 96 (λ m. sameBit (isBlack (set white k v) m) (eqb m i)) && sameList (whitened (set white k v) i) white)
 
+-- ---- what is lent
+
+-- all ten fields
+abbrev pub sameLent : Lent → Lent → Bool
+sameLent a b =
+    eqb (a .n) (b .n)
+    && (sameList (a .active) (b .active)
+    && (sameList (a .color) (b .color)
+    && (sameList (a .sent) (b .sent)
+    && (sameList (a .received) (b .received)
+    && (sameList (a .pending) (b .pending)
+    && (eqb (a .pos) (b .pos) && (isSame (a .q) (b .q) && (eqb (a .black) (b .black) && eqb (a .closed) (b .closed)))))))))
+
 -- ---- the answer
 
 unfoldable pub passes : Case → Bool
@@ -279,6 +303,15 @@ passes (refusal e k) = eqb (numberOf e) k
 passes (reason e k) = eqb (reasonNumber e) k
 passes (black-by i k v) = blackBy i k v
 passes (colors r l) = sameList (r .color) l
+passes (lent-step l kind i j k after) = eqb (stepNumber l kind i j) k && sameLent (stepFields l kind i j) after
+passes (lent-sound l k) = eqb (soundNumber l) k
+passes (lent-drive l limit moves k made after) =
+    eqb (driveNumber l limit) k && (eqb (driveMoves l limit moves) made && sameLent (driveFields l limit) after)
+passes (lent-write l buf size k long after) =
+    eqb (writeNumber l buf) k && (eqb (writeLength l buf size) long && sameList (writeBuffer l buf) after)
+passes (lent-read n s engager root k engager′ root′) =
+    eqb (readNumber n (bytes s)) k
+    && (sameList (readEngagers n (bytes s) engager) engager′ && eqb (readRoot n (bytes s) root) root′)
 
 unfoldable pub allPass : List Case → Bool
 allPass [] = true

@@ -8,4 +8,5 @@ pub mod TableRefusals
 pub mod TableLimits
 pub mod TableNumbers
 pub mod TableTexts
+pub mod TableLent
 pub mod Table

@@ -8,6 +8,7 @@ use Rattle.starred_runs.specs.TableNumbers.{numbers}
 use Rattle.starred_runs.specs.TableRefusals.{order, outside}
 use Rattle.starred_runs.specs.TableRuns.{runs}
 use Rattle.starred_runs.specs.TableTexts.{texts}
+use Rattle.starred_runs.specs.TableLent as lent
 use Rattle.starred_runs.specs.TableRings as ring
 use Rattle.starred_runs.specs.TableTrees as tree
 
@@ -27,8 +28,12 @@ refusals = order ++ (outside ++ limits)
 unfoldable pub written : List Case
 written = numbers ++ texts
 
+-- what other languages are told
+unfoldable pub calls : List Case
+calls = lent.steps ++ (lent.soundness ++ (lent.drives ++ (lent.flags ++ lent.texts)))
+
 unfoldable pub table : List Case
-table = runs ++ (rings ++ (trees ++ (refusals ++ written)))
+table = runs ++ (rings ++ (trees ++ (refusals ++ (written ++ calls))))
 
 abbrev pub AllPass : Type 0
 AllPass = allPass table ≡ true

@@ -1,0 +1,31 @@
+-- What other languages are told, by one computation over the definitions. Assumes nothing.
+use mathlib.Core.Bool.{true}
+use mathlib.Core.Path.{_≡_, refl}
+use Rattle.color.specs.Colors.{blackened, isBlack, whitened}
+use Rattle.decimal.specs.Number.{checked, numberOf, scanOf}
+use Rattle.decimal.specs.Text.{decimal, digits, put}
+use Rattle.exports.specs.Lent.{flagsTest}
+use Rattle.exports.specs.LentTree.{treeFlagsTest}
+use Rattle.flag_bytes.specs.Flags.{areFlags, bytesOf, flagsOf}
+use Rattle.laws.specs.Sums.{countTo, sumTo}
+use Rattle.ring_rules.specs.Driver.{driveFrom, driveOf, mayMove, moveOf}
+use Rattle.ring_rules.specs.Rules.{mayPass, mayProbe}
+use Rattle.ring_rules.specs.Soundness.{flowTest, gatheredTest, passiveAbove, safraTest, sumTest, unusedTest, whiteTo}
+use Rattle.signed.specs.Integers.{_⊖_, isPositive, isSame, isZero}
+use Rattle.tree_rules.specs.Soundness.{balanceTest, chainTest, engagerTest, limitTest, pairTest, placeTest, restTest}
+use Rattle.tree_rules.specs.State.{children, climb, messagesFrom}
+use Rattle.tree_text.specs.Read.{andThen, bodyOf, closed, entered, listOf, nodeBy, nodeOf, readOf}
+use Rattle.tree_text.specs.Text.{childrenText, nodeText}
+use Rattle.tree_text.specs.Write.{writeVerdict}
+use Rattle.starred_runs.specs.Case.{allPass, passes}
+use Rattle.starred_runs.specs.TableLent.{drives, flags, soundness, steps, texts}
+use Rattle.starred_runs.specs.Table.{calls}
+use Rattle.ring_rules.specs.Answers as ring
+use Rattle.ring_rules.specs.Rules as ringRules
+use Rattle.ring_rules.specs.Soundness as ringSound
+use Rattle.tree_rules.specs.Rules as treeRules
+use Rattle.tree_rules.specs.Soundness as treeSound
+
+pub calls-pass : allPass calls ≡ true
+unfolding calls steps soundness drives flags texts passes allPass flagsTest treeFlagsTest areFlags bytesOf flagsOf put isBlack blackened whitened _⊖_ isPositive isZero isSame sumTo countTo ringRules.conclusive ringSound.shapeTest ringSound.rangeTest flowTest sumTest passiveAbove whiteTo gatheredTest safraTest unusedTest ringSound.closedTest ringSound.soundTest mayProbe mayPass ring.verdictOf ring.answerOf mayMove moveOf driveFrom driveOf messagesFrom children climb treeRules.conclusive treeSound.shapeTest treeSound.rangeTest engagerTest chainTest balanceTest restTest pairTest placeTest limitTest treeSound.closedTest treeSound.soundTest decimal digits childrenText nodeText writeVerdict scanOf checked numberOf andThen entered closed bodyOf nodeBy listOf nodeOf readOf
+calls-pass = refl
