@@ -19,6 +19,18 @@ pub struct LentRing {
 }
 
 impl LentRing {
+    /// How many bytes stand for truths.
+    pub const FLAGS: usize = ring::MAX_NODES + 2;
+
+    /// The k-th of them: the nodes', the token's, the run's.
+    pub fn flag(&mut self, k: usize) -> &mut u8 {
+        match k.checked_sub(ring::MAX_NODES) {
+            None => &mut self.active[k],
+            Some(0) => &mut self.black,
+            Some(_) => &mut self.closed,
+        }
+    }
+
     pub fn of(ring: &Ring) -> Self {
         Self {
             n: ring.n,
@@ -83,6 +95,17 @@ pub struct LentTree {
 }
 
 impl LentTree {
+    /// How many bytes stand for truths.
+    pub const FLAGS: usize = tree::MAX_NODES + 1;
+
+    /// The k-th of them: the nodes', the run's.
+    pub fn flag(&mut self, k: usize) -> &mut u8 {
+        match k.checked_sub(tree::MAX_NODES) {
+            None => &mut self.active[k],
+            Some(_) => &mut self.closed,
+        }
+    }
+
     pub fn of(tree: &Tree) -> Self {
         let mut transit = [0; tree::MAX_NODES * tree::MAX_NODES];
         transit.copy_from_slice(&tree.in_transit.concat());
@@ -119,6 +142,21 @@ impl LentTree {
             sends: self.sends,
             closed: truth(self.closed)?,
         })
+    }
+
+    /// Every byte of every field is anything.
+    pub fn noise(random: &mut Rng) -> Self {
+        Self {
+            n: random.word() as usize,
+            root: random.word() as usize,
+            active: bytes(random),
+            engager: bytes(random),
+            unacked: numbers(random),
+            transit: numbers(random),
+            acks: numbers(random),
+            sends: random.word() as u32,
+            closed: random.word() as u8,
+        }
     }
 }
 

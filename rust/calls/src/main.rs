@@ -1,7 +1,7 @@
 //! Compares the proved functions, called through a static library, with the second implementation: the ring's steps of whole runs, wild
 //! states and the driver; every value of each byte that stands for a truth; the tree's text, written, read back and damaged; and walks the
 //! states of EWD998 for N = 3 with the proved step, against document 001's table. What is lent to be written holds noise before each call, and
-//! a refusal must leave every byte of it.
+//! a refusal must leave every byte of it; what is lent to be read is compared after each call too.
 
 mod flags;
 mod lent;
@@ -152,7 +152,9 @@ fn same_step(seed: u64, ring: &LentRing, request: Request) {
 
 fn same_soundness(seed: u64, ring: &LentRing) {
     let expected = ring.ring().is_some_and(|ring| ring.is_sound());
-    if proved::is_sound(ring) != u8::from(expected) {
+    let mut theirs = ring.clone();
+    let told = proved::is_sound(&mut theirs);
+    if (told, &theirs) != (u8::from(expected), ring) {
         fail(seed, &format!("soundness of {ring:?}"));
     }
 }

@@ -1,4 +1,5 @@
-//! The proved functions of crates/exports, each behind a safe one.
+//! The proved functions of crates/exports, each behind a safe one. What is lent to be read only is lent by pointers that may be written
+//! through, so that a write would be seen.
 
 use crate::lent::{LentRing, LentTree};
 use second::request::Request;
@@ -96,15 +97,15 @@ pub fn step(ring: &mut LentRing, request: Request) -> u8 {
 }
 
 /// 1 where the ring is sound, else 0.
-pub fn is_sound(ring: &LentRing) -> u8 {
+pub fn is_sound(ring: &mut LentRing) -> u8 {
     unsafe {
         ring_is_sound(
             ring.n,
-            ring.active.as_ptr(),
-            ring.color.as_ptr(),
-            ring.sent.as_ptr(),
-            ring.received.as_ptr(),
-            ring.pending.as_ptr(),
+            ring.active.as_mut_ptr(),
+            ring.color.as_mut_ptr(),
+            ring.sent.as_mut_ptr(),
+            ring.received.as_mut_ptr(),
+            ring.pending.as_mut_ptr(),
             ring.pos,
             ring.q,
             ring.black,
@@ -118,11 +119,11 @@ pub fn drive(ring: &mut LentRing, limit: u32, moves: &mut u32) -> u8 {
     unsafe {
         ring_drive(
             ring.n,
-            ring.active.as_ptr(),
+            ring.active.as_mut_ptr(),
             ring.color.as_mut_ptr(),
-            ring.sent.as_ptr(),
-            ring.received.as_ptr(),
-            ring.pending.as_ptr(),
+            ring.sent.as_mut_ptr(),
+            ring.received.as_mut_ptr(),
+            ring.pending.as_mut_ptr(),
             &mut ring.pos,
             &mut ring.q,
             &mut ring.black,
@@ -134,16 +135,16 @@ pub fn drive(ring: &mut LentRing, limit: u32, moves: &mut u32) -> u8 {
 }
 
 /// The number of the writer's answer, 0 where the text is written; `length` is then how long it is.
-pub fn write(tree: &LentTree, buffer: &mut [u8], length: &mut usize) -> u8 {
+pub fn write(tree: &mut LentTree, buffer: &mut [u8], length: &mut usize) -> u8 {
     unsafe {
         tree_write(
             tree.n,
             tree.root,
-            tree.active.as_ptr(),
-            tree.engager.as_ptr(),
-            tree.unacked.as_ptr(),
-            tree.transit.as_ptr(),
-            tree.acks.as_ptr(),
+            tree.active.as_mut_ptr(),
+            tree.engager.as_mut_ptr(),
+            tree.unacked.as_mut_ptr(),
+            tree.transit.as_mut_ptr(),
+            tree.acks.as_mut_ptr(),
             tree.sends,
             tree.closed,
             buffer.as_mut_ptr(),
@@ -154,6 +155,6 @@ pub fn write(tree: &LentTree, buffer: &mut [u8], length: &mut usize) -> u8 {
 }
 
 /// The number of the reader's answer, 0 where the text is a tree's; its engagers and root are then given.
-pub fn read(n: usize, text: &[u8], engager: &mut [u8; 16], root: &mut usize) -> u8 {
-    unsafe { tree_read(n, text.as_ptr(), text.len(), engager.as_mut_ptr(), root) }
+pub fn read(n: usize, text: &mut [u8], engager: &mut [u8; 16], root: &mut usize) -> u8 {
+    unsafe { tree_read(n, text.as_mut_ptr(), text.len(), engager.as_mut_ptr(), root) }
 }

@@ -14,6 +14,7 @@ pub fn compare(seed: u64) {
     for _ in 0..20_000 {
         let tree = grown(&mut random);
         same_text(seed, &LentTree::of(&tree), &mut random);
+        same_text(seed, &noise(&mut random), &mut random);
         written += 1;
         let mut buffer = [0; 80];
         let Ok(length) = text::write(&tree, &mut buffer) else {
@@ -26,7 +27,7 @@ pub fn compare(seed: u64) {
             damaged += 1;
         }
     }
-    println!("same: {written} texts of trees, {damaged} damaged texts ({accepted} still a tree's)");
+    println!("same: {written} texts of trees, as many trees of noise, {damaged} damaged texts ({accepted} still a tree's)");
 }
 
 /// A tree after random steps, now and then spoiled.
@@ -39,6 +40,18 @@ pub fn grown(random: &mut Rng) -> Tree {
     }
     if random.chance(10) {
         tree.engager[random.below(MAX_NODES)] = random.below(MAX_NODES + 1);
+    }
+    tree
+}
+
+/// Noise in every field; now and then with truths that are 0 or 1 and nodes in range.
+fn noise(random: &mut Rng) -> LentTree {
+    let mut tree = LentTree::noise(random);
+    if random.chance(50) {
+        tree.active = tree.active.map(|byte| byte % 2);
+        tree.closed %= 2;
+        tree.n = 1 + random.below(MAX_NODES);
+        tree.root = random.below(tree.n);
     }
     tree
 }
@@ -57,8 +70,9 @@ pub fn same_text(seed: u64, tree: &LentTree, random: &mut Rng) {
         |refusal| (refusal.number() as u8, noise),
         |length| (0, length),
     );
-    let told = proved::write(tree, &mut theirs, &mut length);
-    if ((told, length), &theirs) != (expected, &ours) {
+    let mut lent = tree.clone();
+    let told = proved::write(&mut lent, &mut theirs, &mut length);
+    if ((told, length), &theirs, &lent) != (expected, &ours, tree) {
         fail(
             seed,
             &format!("writing told {told} and {length}, expected {expected:?}, of {tree:?}"),
@@ -70,11 +84,15 @@ pub fn same_text(seed: u64, tree: &LentTree, random: &mut Rng) {
 fn same_reading(seed: u64, n: usize, text: &[u8], random: &mut Rng) -> bool {
     let noise: ([u8; MAX_NODES], usize) = (bytes(random), random.word() as usize);
     let (mut engager, mut root) = noise;
-    let told = proved::read(n, text, &mut engager, &mut root);
-    let same = match text::read(n, text) {
-        Ok(found) => told == 0 && root == found.root && engager.map(usize::from) == found.engager,
-        Err(refusal) => u32::from(told) == refusal.number() && (engager, root) == noise,
-    };
+    let mut lent = text.to_vec();
+    let told = proved::read(n, &mut lent, &mut engager, &mut root);
+    let same = lent == text
+        && match text::read(n, text) {
+            Ok(found) => {
+                told == 0 && root == found.root && engager.map(usize::from) == found.engager
+            }
+            Err(refusal) => u32::from(told) == refusal.number() && (engager, root) == noise,
+        };
     if !same {
         fail(
             seed,
