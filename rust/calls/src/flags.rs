@@ -4,7 +4,7 @@ use crate::lent::{LentRing, LentTree};
 use crate::{request, same_calls, started, texts};
 use second::generate::Rng;
 
-const ROUNDS: usize = 20;
+const ROUNDS: usize = 40;
 const VALUES: usize = 256;
 
 pub fn compare(seed: u64) {
