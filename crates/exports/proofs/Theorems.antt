@@ -1,5 +1,5 @@
 -- What the contracts add up to. Assumes nothing.
-use Prim.Native.Nat.{_<_, ℕ}
+use Prim.Native.Nat.{_<_}
 use mathlib.Core.Bool.{Bool, _&&_, and-false, false}
 use mathlib.Core.Path.{_∙_, _≡_, ap, refl}
 use native.Mathlib.Omega.{arith}

@@ -75,14 +75,14 @@ drives =
 
 -- ---- a byte that is no truth: of a node, of a place past n, of the token, of the run
 
-abbrev pub not-judged : Lent → List Case
-not-judged l = keeps l 1 0 2 3 ∷ lent-sound l 0 ∷ lent-drive l 5 77 3 77 l ∷ []
+abbrev pub no-flag : Lent → List Case
+no-flag l = keeps l 1 0 2 3 ∷ lent-sound l 0 ∷ lent-drive l 5 77 3 77 l ∷ []
 
 unfoldable pub flags : List Case
 flags =
-    not-judged (busy (three 1 2 0) 3 1 (0 ⊖ 4) 1 0)
-    ++ (not-judged (busy (set (three 1 0 0) 95 2) 3 1 (0 ⊖ 4) 1 0)
-    ++ (not-judged (busy (three 1 0 0) 3 1 (0 ⊖ 4) 2 0) ++ not-judged (busy (three 1 0 0) 3 1 (0 ⊖ 4) 1 2)))
+    no-flag (busy (three 1 2 0) 3 1 (0 ⊖ 4) 1 0)
+    ++ (no-flag (busy (set (three 1 0 0) 95 2) 3 1 (0 ⊖ 4) 1 0)
+    ++ (no-flag (busy (three 1 0 0) 3 1 (0 ⊖ 4) 2 0) ++ no-flag (busy (three 1 0 0) 3 1 (0 ⊖ 4) 1 2)))
 
 -- ---- a tree of four nodes, root 1, which engages 0, which engages 2
 

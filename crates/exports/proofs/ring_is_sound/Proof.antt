@@ -1,6 +1,6 @@
 use borrow.Author.Needs.{needs}
 use mathlib.Core.Bool.{_&&_}
-use mathlib.Core.Path.{_∙_, ap}
+use mathlib.Core.Path.{_∙_, _≡_, ap}
 use mir.Facts.{toZ-ofZ}
 use mir.Syntax.{w64}
 use mir.Val.{SFits}
@@ -28,8 +28,9 @@ returns c =
     let at-flags = c .before .before .before .before .before .before .before .before in
     let start = at-flags .before .before in
     let f : SFits w64 (start .args .q) = search needs in
+    let told : c .byte .result ≡ byteOf (at-flags .are-flags .result && c .before .is-sound .result) = c .byte .ensures in
     let e = c .before .is-sound .ensures ∙ ap soundTest (c .before .before .gathered .ensures) in
-    c .byte .ensures ∙ (λ x. byteOf (at-flags .are-flags .ensures x && e x)) ∙ rw (toZ-ofZ f)
+    told ∙ (λ x. byteOf (at-flags .are-flags .ensures x && e x)) ∙ rw (toZ-ofZ f)
 
 pub ring-is-sound-spec : {M : Type 1} → statement M
 ring-is-sound-spec =
