@@ -10,13 +10,14 @@ use std::path::Path;
 use std::process::ExitCode;
 
 /// Files of `specs/` that hold statements; the others hold definitions.
-const STATEMENTS: [&str; 17] = [
+const STATEMENTS: [&str; 18] = [
     "Agreement",
     "Cases",
     "Exact",
     "Examples",
     "Listing",
     "Ring",
+    "TableLent",
     "TableLimits",
     "TableNumbers",
     "TableRefusals",
