@@ -1,4 +1,4 @@
-//! Links the proved functions, target/staticlib/libexports.a of the repository.
+//! Links the proved functions, target/staticlib/libmuzserlik.a of the repository.
 
 use std::path::Path;
 
@@ -6,9 +6,9 @@ fn main() {
     let here = std::env::var("CARGO_MANIFEST_DIR").expect("set by cargo");
     let library = Path::new(&here).join("../../target/staticlib");
     println!("cargo:rustc-link-search=native={}", library.display());
-    println!("cargo:rustc-link-lib=static=exports");
+    println!("cargo:rustc-link-lib=static=muzserlik");
     println!(
         "cargo:rerun-if-changed={}",
-        library.join("libexports.a").display()
+        library.join("libmuzserlik.a").display()
     );
 }

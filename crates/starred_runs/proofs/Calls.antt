@@ -4,8 +4,8 @@ use mathlib.Core.Path.{_≡_, refl}
 use Rattle.color.specs.Colors.{blackened, isBlack, whitened}
 use Rattle.decimal.specs.Number.{checked, numberOf, scanOf}
 use Rattle.decimal.specs.Text.{decimal, digits, put}
-use Rattle.exports.specs.Lent.{flagsTest}
-use Rattle.exports.specs.LentTree.{treeFlagsTest}
+use Rattle.lent.specs.Ring.{flagsTest}
+use Rattle.lent.specs.Tree.{treeFlagsTest}
 use Rattle.flag_bytes.specs.Flags.{areFlags, bytesOf, flagsOf}
 use Rattle.laws.specs.Sums.{countTo, sumTo}
 use Rattle.ring_rules.specs.Driver.{driveFrom, driveOf, mayMove, moveOf}

@@ -9,8 +9,8 @@ use mathlib.Core.Bool.{Bool, _&&_, _||_, cond, false, not, true}
 use mathlib.Core.List.{List, [], _++_, _∷_}
 use Rattle.color.specs.Colors.{blackened, isBlack, whitened}
 use Rattle.decimal.specs.Bytes.{bytes}
-use Rattle.exports.specs.Lent.{Lent, driveFields, driveMoves, driveNumber, soundNumber, stepFields, stepNumber}
-use Rattle.exports.specs.LentTree.{LentTree, readEngagers, readNumber, readRoot, writeBuffer, writeLength, writeNumber}
+use Rattle.lent.specs.Ring.{Lent, driveFields, driveMoves, driveNumber, soundNumber, stepFields, stepNumber}
+use Rattle.lent.specs.Tree.{LentTree, readEngagers, readNumber, readRoot, writeBuffer, writeLength, writeNumber}
 use Rattle.laws.specs.Places.{allTo}
 use Rattle.log_rules.specs.Output.{outputOf}
 use Rattle.refusal.specs.Table.{codeOf, numberOf}

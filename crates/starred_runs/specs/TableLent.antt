@@ -5,8 +5,8 @@ use lib.IntN.{ℤ}
 use lib.ListN.{replicate, set}
 use mathlib.Core.List.{List, [], _++_, _∷_}
 use Rattle.decimal.specs.Bytes.{bytes}
-use Rattle.exports.specs.Lent.{Lent, lent}
-use Rattle.exports.specs.LentTree.{LentTree, lentTree}
+use Rattle.lent.specs.Ring.{Lent, lent}
+use Rattle.lent.specs.Tree.{LentTree, lentTree}
 use Rattle.signed.specs.Integers.{_⊖_}
 use Rattle.starred_runs.specs.Case.{Case, conclusive, lent-drive, lent-read, lent-sound, lent-step, lent-write, spent, waiting}
 

@@ -1,11 +1,11 @@
-//! The proved functions of crates/exports, each behind a safe one. What is lent to be read only is lent by pointers that may be written
-//! through, so that a write would be seen.
+//! The proved functions of crates/ring_exports and crates/tree_exports, each behind a safe one. What is lent to be read only is lent by
+//! pointers that may be written through, so that a write would be seen.
 
 use crate::lent::{LentRing, LentTree};
 use second::request::Request;
 
 extern "C" {
-    fn ring_step(
+    fn muzserlik_ring_step_fields(
         n: usize,
         active: *mut u8,
         color: *mut u8,
@@ -21,7 +21,7 @@ extern "C" {
         j: usize,
     ) -> u8;
 
-    fn ring_is_sound(
+    fn muzserlik_ring_is_sound_fields(
         n: usize,
         active: *const u8,
         color: *const u8,
@@ -34,7 +34,7 @@ extern "C" {
         closed: u8,
     ) -> u8;
 
-    fn ring_drive(
+    fn muzserlik_ring_drive_fields(
         n: usize,
         active: *const u8,
         color: *mut u8,
@@ -49,7 +49,7 @@ extern "C" {
         moves: *mut u32,
     ) -> u8;
 
-    fn tree_write(
+    fn muzserlik_tree_write_fields(
         n: usize,
         root: usize,
         active: *const u8,
@@ -64,7 +64,7 @@ extern "C" {
         length: *mut usize,
     ) -> u8;
 
-    fn tree_read(
+    fn muzserlik_tree_read(
         n: usize,
         text: *const u8,
         length: usize,
@@ -78,7 +78,7 @@ pub fn step(ring: &mut LentRing, request: Request) -> u8 {
     let kind = u8::try_from(request.kind).expect("a kind of one byte");
     // The arrays are as long as the proved function's own, and each is lent once.
     unsafe {
-        ring_step(
+        muzserlik_ring_step_fields(
             ring.n,
             ring.active.as_mut_ptr(),
             ring.color.as_mut_ptr(),
@@ -99,7 +99,7 @@ pub fn step(ring: &mut LentRing, request: Request) -> u8 {
 /// 1 where the ring is sound, else 0.
 pub fn is_sound(ring: &mut LentRing) -> u8 {
     unsafe {
-        ring_is_sound(
+        muzserlik_ring_is_sound_fields(
             ring.n,
             ring.active.as_mut_ptr(),
             ring.color.as_mut_ptr(),
@@ -117,7 +117,7 @@ pub fn is_sound(ring: &mut LentRing) -> u8 {
 /// The number of the driver's reason (100 conclusive, 101 waiting, 102 spent, else a refusal); `moves` is then how many it made.
 pub fn drive(ring: &mut LentRing, limit: u32, moves: &mut u32) -> u8 {
     unsafe {
-        ring_drive(
+        muzserlik_ring_drive_fields(
             ring.n,
             ring.active.as_mut_ptr(),
             ring.color.as_mut_ptr(),
@@ -137,7 +137,7 @@ pub fn drive(ring: &mut LentRing, limit: u32, moves: &mut u32) -> u8 {
 /// The number of the writer's answer, 0 where the text is written; `length` is then how long it is.
 pub fn write(tree: &mut LentTree, buffer: &mut [u8], length: &mut usize) -> u8 {
     unsafe {
-        tree_write(
+        muzserlik_tree_write_fields(
             tree.n,
             tree.root,
             tree.active.as_mut_ptr(),
@@ -156,5 +156,5 @@ pub fn write(tree: &mut LentTree, buffer: &mut [u8], length: &mut usize) -> u8 {
 
 /// The number of the reader's answer, 0 where the text is a tree's; its engagers and root are then given.
 pub fn read(n: usize, text: &mut [u8], engager: &mut [u8; 16], root: &mut usize) -> u8 {
-    unsafe { tree_read(n, text.as_mut_ptr(), text.len(), engager.as_mut_ptr(), root) }
+    unsafe { muzserlik_tree_read(n, text.as_mut_ptr(), text.len(), engager.as_mut_ptr(), root) }
 }

@@ -1,0 +1,122 @@
+-- The equations of the ring's contracts, by what the code found. Assumes nothing.
+use Prim.Native.Nat.{ℕ}
+use mathlib.Core.Bool.{_&&_, false, true}
+use mathlib.Core.Path.{_∙_, _≡_, ap, refl, sym}
+use Rattle.flag_bytes.proofs.Laws.{flag-back, flags-back}
+use Rattle.flag_bytes.specs.Flags.{areFlags, byteOf, bytesOf, isFlag}
+use Rattle.laws.proofs.Tests.{both}
+use Rattle.refusal.proofs.Table.{not-both}
+use Rattle.refusal.specs.Table.{codeOf, settle}
+use Rattle.refusal.specs.declared.Refusal.{Refusal}
+use Rattle.refusal.specs.declared.Refusal.the-variants.{Unsound}
+use Rattle.refusal.specs.declared.Verdict.{Verdict}
+use Rattle.refusal.specs.declared.Verdict.the-variants.{Accepted, Refused}
+use Rattle.ring_rules.proofs.Fields.{drive-keeps, nodes-kept, unmoved}
+use Rattle.ring_rules.specs.Answers.{Answer, stepOf}
+use Rattle.ring_rules.specs.Driver.{Driven, driveOf, reasonNumber, reasonVerdict}
+use Rattle.ring_rules.specs.State.{State}
+use Rattle.ring_rules.specs.declared.Reason.{Reason}
+use Rattle.ring_rules.specs.declared.Reason.the-variants.{Conclusive, Spent, Stopped, Waiting}
+use Rattle.tree_text.specs.Write.{told}
+use Rattle.lent.specs.Ring.{DrivenTo, Lent, SteppedTo, driveReason, flagsTest, lent, lentOf, stateOf, stepVerdict}
+
+-- ---- a step
+
+-- the fields of l with the columns and the token of r
+abbrev pub steppedOver : Lent → State → Lent
+steppedOver l r =
+    lent (l .n) (bytesOf (r .active)) (r .color) (r .sent) (r .received) (r .pending) (r .pos) (r .q) (byteOf (r .black)) (byteOf (r .closed))
+
+by-step :
+    (l : Lent) (kind i j number : ℕ) (after : Lent) (w : Verdict) → stepVerdict l kind i j ≡ w → number ≡ codeOf w
+    → after ≡ settle w (lentOf (stepOf (stateOf l) kind i j .state)) l → SteppedTo l kind i j number after
+by-step l kind i j number after w e t f =
+    record {
+      told = t ∙ sym (ap codeOf e);
+      fields = f ∙ sym (ap (λ (v : Verdict). settle v (lentOf (stepOf (stateOf l) kind i j .state)) l) e);
+    }
+
+pub step-unflagged : {l : Lent} {kind i j number : ℕ} → flagsTest l ≡ false → number ≡ 3 → SteppedTo l kind i j number l
+step-unflagged {l} {kind} {i} {j} {number} f t = by-step l kind i j number l (Refused Unsound) (rw f) t refl
+
+pub step-refused :
+    {l : Lent} {kind i j number : ℕ} (r : State) (a : Answer) {e : Refusal} → r ≡ stateOf l → a ≡ stepOf r kind i j
+    → flagsTest l ≡ true → a .verdict ≡ Refused e → number ≡ codeOf (a .verdict) → SteppedTo l kind i j number l
+step-refused {l} {kind} {i} {j} {number} r a {e} p s f v t =
+    by-step l kind i j number l (Refused e)
+    (rw (f, ← p) (ap (λ (x : Answer). x .verdict) (sym s) ∙ v))
+    (t ∙ ap codeOf v)
+    refl
+
+pub step-accepted :
+    {l after : Lent} {kind i j : ℕ} (r : State) (a : Answer) → r ≡ stateOf l → a ≡ stepOf r kind i j
+    → flagsTest l ≡ true → a .verdict ≡ Accepted → after ≡ steppedOver l (a .state) → SteppedTo l kind i j 0 after
+step-accepted {l} {after} {kind} {i} {j} r a p s f v h =
+    let e : a ≡ stepOf (stateOf l) kind i j = s ∙ ap (λ (x : State). stepOf x kind i j) p in
+    let n : l .n ≡ a .state .n = sym (ap (λ (x : Answer). x .state .n) e ∙ nodes-kept (stateOf l) kind i j) in
+    by-step l kind i j 0 after Accepted
+    (rw (f, ← e) v)
+    refl
+    (h ∙ (λ x. lent (n x) (bytesOf (a .state .active)) (a .state .color) (a .state .sent) (a .state .received) (a .state .pending)
+    (a .state .pos) (a .state .q) (byteOf (a .state .black)) (byteOf (a .state .closed))) ∙ ap (λ (x : Answer). lentOf (x .state)) e)
+
+-- ---- the driver
+
+-- the fields of l with the colors and the token of r
+abbrev pub drivenOver : Lent → State → Lent
+drivenOver l r =
+    lent (l .n) (l .active) (r .color) (l .sent) (l .received) (l .pending) (r .pos) (r .q) (byteOf (r .black)) (l .closed)
+
+by-drive :
+    (l : Lent) (limit number moves moves′ : ℕ) (after : Lent) (w : Reason) → driveReason l limit ≡ w → number ≡ reasonNumber w
+    → moves′ ≡ settle (reasonVerdict w) (driveOf (stateOf l) limit .moves) moves
+    → after ≡ settle (reasonVerdict w) (lentOf (driveOf (stateOf l) limit .state)) l → DrivenTo l limit number moves moves′ after
+by-drive l limit number moves moves′ after w e t m f =
+    record {
+      told = t ∙ sym (ap reasonNumber e);
+      made = m ∙ sym (ap (λ (v : Reason). settle (reasonVerdict v) (driveOf (stateOf l) limit .moves) moves) e);
+      fields = f ∙ sym (ap (λ (v : Reason). settle (reasonVerdict v) (lentOf (driveOf (stateOf l) limit .state)) l) e);
+    }
+
+pub drive-unflagged : {l : Lent} {limit number moves : ℕ} → flagsTest l ≡ false → number ≡ 3 → DrivenTo l limit number moves moves l
+drive-unflagged {l} {limit} {number} {moves} f t = by-drive l limit number moves moves l (Stopped Unsound) (rw f) t refl refl
+
+stopped-by : (w : Reason) (e : Refusal) → reasonVerdict w ≡ Refused e → reasonNumber w ≡ codeOf (Refused e)
+stopped-by Conclusive e p = absurd (not-both refl p)
+stopped-by Waiting e p = absurd (not-both refl p)
+stopped-by Spent e p = absurd (not-both refl p)
+stopped-by (Stopped r) e p = ap codeOf p
+
+pub drive-refused :
+    {l : Lent} {limit number moves : ℕ} (r : State) (d : Driven) (v : Verdict) {e : Refusal} → r ≡ stateOf l → d ≡ driveOf r limit
+    → flagsTest l ≡ true → v ≡ reasonVerdict (d .reason) → v ≡ Refused e → number ≡ codeOf v → DrivenTo l limit number moves moves l
+drive-refused {l} {limit} {number} {moves} r d v {e} p s f u w t =
+    let x : reasonVerdict (d .reason) ≡ Refused e = sym u ∙ w in
+    by-drive l limit number moves moves l (d .reason)
+    (rw (f, ← p) (ap (λ (y : Driven). y .reason) (sym s)))
+    (t ∙ ap codeOf w ∙ sym (stopped-by (d .reason) e x))
+    (rw x)
+    (rw x)
+
+-- what the driver does not change is the same, bytes and all
+driven-over : (l : Lent) (s : State) → flagsTest l ≡ true → unmoved (stateOf l) ≡ unmoved s → drivenOver l s ≡ lentOf s
+unfolding flagsTest
+driven-over l s f k =
+    let a = both (areFlags (l .active)) (isFlag (l .black) && isFlag (l .closed)) f in
+    let b = both (isFlag (l .black)) (isFlag (l .closed)) (a .1) in
+    let active : l .active ≡ bytesOf (s .active) = sym (flags-back (l .active) (a .0)) ∙ (λ x. bytesOf (k x .1)) in
+    let closed : l .closed ≡ byteOf (s .closed) = sym (flag-back (l .closed) (b .1)) ∙ (λ x. byteOf (k x .5)) in
+    λ x. lent (k x .0) (active x) (s .color) (k x .2) (k x .3) (k x .4) (s .pos) (s .q) (byteOf (s .black)) (closed x)
+
+pub drive-accepted :
+    {l after : Lent} {limit number moves moves′ : ℕ} (r : State) (d : Driven) (v : Verdict) → r ≡ stateOf l → d ≡ driveOf r limit
+    → flagsTest l ≡ true → v ≡ reasonVerdict (d .reason) → v ≡ Accepted → number ≡ reasonNumber (d .reason) → moves′ ≡ d .moves
+    → after ≡ drivenOver l (d .state) → DrivenTo l limit number moves moves′ after
+drive-accepted {l} {after} {limit} {number} {moves} {moves′} r d v p s f u w t m h =
+    let e : d ≡ driveOf (stateOf l) limit = s ∙ ap (λ (x : State). driveOf x limit) p in
+    let x : reasonVerdict (d .reason) ≡ Accepted = sym u ∙ w in
+    by-drive l limit number moves moves′ after (d .reason)
+    (rw (f, ← e))
+    t
+    (rw (x, ← e) m)
+    (rw (x, ← e) (h ∙ driven-over l (d .state) f (sym (ap (λ (y : Driven). unmoved (y .state)) e ∙ drive-keeps (stateOf l) limit))))

@@ -1,0 +1,41 @@
+-- What the contracts of the exported functions add up to, of every number that they can answer.
+use Prim.Native.Nat.{_<_, ℕ}
+use lib.ListN.{getD}
+use mathlib.Core.List.{List}
+use mathlib.Core.Path.{_≡_}
+use Rattle.lent.specs.Ring.{DrivenTo, Lent, SteppedTo, soundNumber}
+use Rattle.lent.specs.Tree.{LentTree, ReadAs, WrittenAs}
+
+-- "A refusal gives its number and the state handed in; no byte of a lent buffer differs": each number but 0, of the driver each below 100,
+-- is a refusal's, and then every lent field is as it was
+pub record RefusalsKeep : Type 0 where
+  pub step :
+      {l after : Lent} {kind i j number : ℕ} → SteppedTo l kind i j number after → (number ≡ 0 → ⊥) → after ≡ l
+  pub drive :
+      {l after : Lent} {limit number moves moves′ : ℕ} → DrivenTo l limit number moves moves′ after → number < 100
+      → (moves′ ≡ moves) × (after ≡ l)
+  pub write :
+      {l : LentTree} {buf buf′ : List ℕ} {number length length′ : ℕ} → WrittenAs l buf number length length′ buf′ → (number ≡ 0 → ⊥)
+      → (length′ ≡ length) × (buf′ ≡ buf)
+  pub read :
+      {n number root root′ : ℕ} {s engager engager′ : List ℕ} → ReadAs n s number engager root engager′ root′ → (number ≡ 0 → ⊥)
+      → (engager′ ≡ engager) × (root′ ≡ root)
+
+-- a byte above 1 where a truth is lent, at whatever place
+pub data NoFlag (l : Lent) : Type 0 where
+  inActive : (k : ℕ) → 1 < getD (l .active) k 0 → NoFlag l
+  inBlack : 1 < l .black → NoFlag l
+  inClosed : 1 < l .closed → NoFlag l
+
+pub data NoTreeFlag (l : LentTree) : Type 0 where
+  inActive : (k : ℕ) → 1 < getD (l .active) k 0 → NoTreeFlag l
+  inClosed : 1 < l .closed → NoTreeFlag l
+
+-- "any state handed in, 3, not sound": such a byte is answered 3, and told as not sound
+pub record BytesJudged : Type 0 where
+  pub step : {l after : Lent} {kind i j number : ℕ} → NoFlag l → SteppedTo l kind i j number after → number ≡ 3
+  pub sound : {l : Lent} → NoFlag l → soundNumber l ≡ 0
+  pub drive : {l after : Lent} {limit number moves moves′ : ℕ} → NoFlag l → DrivenTo l limit number moves moves′ after → number ≡ 3
+  pub write :
+      {l : LentTree} {buf buf′ : List ℕ} {number length length′ : ℕ} → NoTreeFlag l → WrittenAs l buf number length length′ buf′
+      → number ≡ 3

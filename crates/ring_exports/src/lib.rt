@@ -1,0 +1,202 @@
+// What other languages call of the ring: its fields are lent one by one. Bytes and numbers alone cross, and a byte above 1 where a truth
+// belongs is judged as an unsound state.
+use refusal::Refusal;
+use refusal::Verdict;
+use ring::Ring;
+use ring_rules::Reason;
+ghost use mathlib.Core.Path.{_≡_};
+ghost use mathlib.Core.Bool.{_&&_};
+ghost use Rattle.flag_bytes.specs.Flags.{areFlags, isFlag};
+ghost use Rattle.lent.specs.Ring.{lent, stateOf, soundNumber, SteppedTo, DrivenTo};
+ghost use Rattle.ring.specs.View.{state};
+ghost use Rattle.ring_rules.specs.Driver.{reasonVerdict};
+
+// Are the bytes of a lent ring's truths each 0 or 1?
+fn are_flags(active: [u8; 96], black: u8, closed: u8) -> bool
+    ensures { λ r. ⌜ r ≡ (areFlags active && (isFlag black && isFlag closed)) ⌝ }
+{
+    let column = flag_bytes::are_flags(&active);
+    column & ((black <= 1) & (closed <= 1))
+}
+
+// The ring that lies in lent fields.
+fn gathered(
+    n: usize,
+    active: [u8; 96],
+    color: [u8; 12],
+    sent: [u32; 96],
+    received: [u32; 96],
+    pending: [u32; 96],
+    pos: usize,
+    q: i64,
+    black: u8,
+    closed: u8,
+) -> Ring
+    ensures { λ r. ⌜ state r ≡ stateOf (lent n active color sent received pending pos q black closed) ⌝ }
+{
+    let flags = flag_bytes::ring_flags(active);
+    Ring {
+        n,
+        active: flags,
+        color,
+        sent,
+        received,
+        pending,
+        pos,
+        q,
+        black: black == 1,
+        closed: closed == 1,
+    }
+}
+
+// A step in place: the number of its answer, 0 where it is accepted.
+#[no_mangle]
+pub extern "C" fn muzserlik_ring_step_fields(
+    n: usize,
+    active: &mut [u8; 96],
+    color: &mut [u8; 12],
+    sent: &mut [u32; 96],
+    received: &mut [u32; 96],
+    pending: &mut [u32; 96],
+    pos: &mut usize,
+    q: &mut i64,
+    black: &mut u8,
+    closed: &mut u8,
+    kind: u8,
+    i: usize,
+    j: usize,
+) -> u8
+    ensures { λ r. ⌜ SteppedTo (lent n (now (active .entry)) (now (color .entry)) (now (sent .entry)) (now (received .entry)) (now (pending .entry)) (now (pos .entry)) (now (q .entry)) (now (black .entry)) (now (closed .entry))) kind i j r
+        (lent n (now (active .exit)) (now (color .exit)) (now (sent .exit)) (now (received .exit)) (now (pending .exit)) (now (pos .exit)) (now (q .exit)) (now (black .exit)) (now (closed .exit))) ⌝ }
+{
+    if !are_flags(*active, *black, *closed) {
+        return refusal::number(Refusal::Unsound);
+    }
+    let s = gathered(
+        n,
+        *active,
+        *color,
+        *sent,
+        *received,
+        *pending,
+        *pos,
+        *q,
+        *black,
+        *closed,
+    ).step(kind, i, j);
+    let verdict = s.verdict;
+    let Verdict::Accepted = verdict else {
+        return refusal::code(verdict);
+    };
+    let next = s.ring;
+    let active_now = next.active;
+    *active = flag_bytes::ring_bytes(active_now);
+    let color_now = next.color;
+    *color = color_now;
+    let sent_now = next.sent;
+    *sent = sent_now;
+    let received_now = next.received;
+    *received = received_now;
+    let pending_now = next.pending;
+    *pending = pending_now;
+    *pos = next.pos;
+    let q_now = next.q;
+    *q = q_now;
+    *black = flag_bytes::byte(next.black);
+    *closed = flag_bytes::byte(next.closed);
+    0
+}
+
+// Is the ring sound? 1 where it is, else 0.
+#[no_mangle]
+pub extern "C" fn muzserlik_ring_is_sound_fields(
+    n: usize,
+    active: &[u8; 96],
+    color: &[u8; 12],
+    sent: &[u32; 96],
+    received: &[u32; 96],
+    pending: &[u32; 96],
+    pos: usize,
+    q: i64,
+    black: u8,
+    closed: u8,
+) -> u8
+    ensures { λ r. ⌜ r ≡ soundNumber (lent n (now (active .entry)) (now (color .entry)) (now (sent .entry)) (now (received .entry)) (now (pending .entry)) pos q black closed) ⌝ }
+{
+    let flags = are_flags(*active, black, closed);
+    let sound = gathered(
+        n,
+        *active,
+        *color,
+        *sent,
+        *received,
+        *pending,
+        pos,
+        q,
+        black,
+        closed,
+    ).is_sound();
+    flag_bytes::byte(flags & sound)
+}
+
+fn reason_verdict(e: Reason) -> Verdict
+    ensures { λ v. ⌜ v ≡ reasonVerdict e ⌝ }
+{
+    match e {
+        Reason::Conclusive => Verdict::Accepted,
+        Reason::Waiting => Verdict::Accepted,
+        Reason::Spent => Verdict::Accepted,
+        Reason::Stopped(r) => Verdict::Refused(r),
+    }
+}
+
+// The driver in place: the number of its reason; `moves` is how many it made.
+#[no_mangle]
+pub extern "C" fn muzserlik_ring_drive_fields(
+    n: usize,
+    active: &[u8; 96],
+    color: &mut [u8; 12],
+    sent: &[u32; 96],
+    received: &[u32; 96],
+    pending: &[u32; 96],
+    pos: &mut usize,
+    q: &mut i64,
+    black: &mut u8,
+    closed: u8,
+    limit: u32,
+    moves: &mut u32,
+) -> u8
+    ensures { λ r. ⌜ DrivenTo (lent n (now (active .entry)) (now (color .entry)) (now (sent .entry)) (now (received .entry)) (now (pending .entry)) (now (pos .entry)) (now (q .entry)) (now (black .entry)) closed) limit r (now (moves .entry)) (now (moves .exit))
+        (lent n (now (active .entry)) (now (color .exit)) (now (sent .entry)) (now (received .entry)) (now (pending .entry)) (now (pos .exit)) (now (q .exit)) (now (black .exit)) closed) ⌝ }
+{
+    if !are_flags(*active, *black, closed) {
+        return refusal::number(Refusal::Unsound);
+    }
+    let ring = gathered(
+        n,
+        *active,
+        *color,
+        *sent,
+        *received,
+        *pending,
+        *pos,
+        *q,
+        *black,
+        closed,
+    );
+    let d = ring.drive(limit);
+    let reason = d.reason;
+    let verdict = reason_verdict(reason);
+    let Verdict::Accepted = verdict else {
+        return refusal::code(verdict);
+    };
+    let next = d.ring;
+    let color_now = next.color;
+    *color = color_now;
+    *pos = next.pos;
+    let q_now = next.q;
+    *q = q_now;
+    *black = flag_bytes::byte(next.black);
+    *moves = d.moves;
+    ring_rules::reason_number(reason)
+}
