@@ -138,7 +138,7 @@ impl Log {
                     Err(refusal)
                 }
             },
-            Run::Refused => Err(Refusal::Form),
+            Run::Refused => Err(Refusal::NotAForm),
             Run::Ring(run) => run.carry_out(form_of(line)?),
             Run::Tree(tree) => tree.apply(tree_request(form_of(line)?)?),
         }
@@ -161,11 +161,11 @@ impl RingRun {
 /// What stands between the outer brackets of a line that is not too long.
 fn form_of(line: &[u8]) -> Result<&[u8], Refusal> {
     if line.len() > LINE_LIMIT {
-        return Err(Refusal::Form);
+        return Err(Refusal::NotAForm);
     }
     line.strip_prefix(b"(")
         .and_then(|line| line.strip_suffix(b")\n"))
-        .ok_or(Refusal::Form)
+        .ok_or(Refusal::NotAForm)
 }
 
 /// The first line. Its form is judged whole, then N, then the nodes it names.
@@ -194,12 +194,12 @@ fn start_ring(mut items: Items) -> Result<Run, Refusal> {
     };
     items.end()?;
     if !(1..=ring::MAX_NODES).contains(&n) {
-        return Err(Refusal::Size);
+        return Err(Refusal::NodeCount);
     }
     let mut flags = vec![0; n];
     for (list, bit) in [(active, 1), (black, 2)] {
         for i in list {
-            *flags.get_mut(i).ok_or(Refusal::Node)? |= bit;
+            *flags.get_mut(i).ok_or(Refusal::UnknownNode)? |= bit;
         }
     }
     Ok(Run::Ring(RingRun {
@@ -228,7 +228,7 @@ fn ring_request(form: &[u8]) -> Result<Request, Refusal> {
         b"probe" => none(PROBE, numbers),
         b"pass" => one(PASS, numbers),
         b"announce" => none(ANNOUNCE, numbers),
-        _ => Err(Refusal::Form),
+        _ => Err(Refusal::NotAForm),
     }
 }
 
@@ -241,7 +241,7 @@ fn tree_request(form: &[u8]) -> Result<Request, Refusal> {
         b"ack" => one(ACK, numbers),
         b"leave" => one(LEAVE, numbers),
         b"announce" => none(ANNOUNCE, numbers),
-        _ => Err(Refusal::Form),
+        _ => Err(Refusal::NotAForm),
     }
 }
 
@@ -277,7 +277,7 @@ struct Items<'a> {
 
 impl Items<'_> {
     fn literal(&mut self, bytes: &[u8]) -> Result<(), Refusal> {
-        self.rest = self.rest.strip_prefix(bytes).ok_or(Refusal::Form)?;
+        self.rest = self.rest.strip_prefix(bytes).ok_or(Refusal::NotAForm)?;
         Ok(())
     }
 
@@ -285,7 +285,7 @@ impl Items<'_> {
     fn number(&mut self) -> Result<usize, Refusal> {
         let (digits, rest) = self.rest.split_at(decimal::digits(self.rest));
         if !(1..=DIGIT_LIMIT).contains(&digits.len()) || decimal::has_leading_zero(digits) {
-            return Err(Refusal::Form);
+            return Err(Refusal::NotAForm);
         }
         self.rest = rest;
         Ok(decimal::value(digits))
@@ -302,7 +302,7 @@ impl Items<'_> {
         while self.rest.starts_with(b" ") {
             let i = self.spaced_number()?;
             if list.last().is_some_and(|&last| i <= last) {
-                return Err(Refusal::Form);
+                return Err(Refusal::NotAForm);
             }
             list.push(i);
         }
@@ -313,7 +313,7 @@ impl Items<'_> {
         if self.rest.is_empty() {
             Ok(())
         } else {
-            Err(Refusal::Form)
+            Err(Refusal::NotAForm)
         }
     }
 }

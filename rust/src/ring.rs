@@ -53,10 +53,10 @@ impl Ring {
     /// Start from N and N flag bytes: bit 0 is active, bit 1 is black.
     pub fn start(n: usize, flags: &[u8]) -> Result<Self, Refusal> {
         if !(1..=MAX_NODES).contains(&n) {
-            return Err(Refusal::Size);
+            return Err(Refusal::NodeCount);
         }
         if flags.len() != n || flags.iter().any(|&flag| flag > 3) {
-            return Err(Refusal::Flags);
+            return Err(Refusal::StartFlags);
         }
         let mut ring = Self::blank(n);
         for (i, flag) in flags.iter().enumerate() {
@@ -222,7 +222,7 @@ impl Ring {
             PROBE => self.probe(),
             PASS => self.pass(i),
             ANNOUNCE => self.announce(),
-            _ => Err(Refusal::Kind),
+            _ => Err(Refusal::UnknownKind),
         }
     }
 
@@ -230,7 +230,7 @@ impl Ring {
         if i < self.n {
             Ok(())
         } else {
-            Err(Refusal::Node)
+            Err(Refusal::UnknownNode)
         }
     }
 
@@ -239,7 +239,7 @@ impl Ring {
         self.check_node(i)?;
         self.check_node(j)?;
         if i == j {
-            return Err(Refusal::SelfSend);
+            return Err(Refusal::SelfMessage);
         }
         require(self.active[i])?;
         if sends >= SEND_LIMIT {

@@ -19,7 +19,7 @@ pub fn write(tree: &Tree, buffer: &mut [u8]) -> Result<usize, Refusal> {
     }
     let mut text = Vec::new();
     append(tree, &mut text);
-    let front = buffer.get_mut(..text.len()).ok_or(Refusal::Buffer)?;
+    let front = buffer.get_mut(..text.len()).ok_or(Refusal::ShortBuffer)?;
     front.copy_from_slice(&text);
     Ok(text.len())
 }
@@ -46,7 +46,7 @@ fn append_list(tree: &Tree, parent: usize, out: &mut Vec<u8>) {
 /// Reads a text of a tree of N nodes; the first fault from the left decides.
 pub fn read(n: usize, text: &[u8]) -> Result<Engagement, Refusal> {
     if !(1..=MAX_NODES).contains(&n) {
-        return Err(Refusal::Size);
+        return Err(Refusal::NodeCount);
     }
     let mut reader = Reader {
         n,
@@ -55,7 +55,7 @@ pub fn read(n: usize, text: &[u8]) -> Result<Engagement, Refusal> {
     };
     let root = reader.node(None, None)?;
     if !reader.rest.is_empty() {
-        return Err(Refusal::Form);
+        return Err(Refusal::NotAForm);
     }
     Ok(Engagement {
         root,
@@ -78,7 +78,7 @@ impl Reader<'_> {
         let i = self.number()?;
         let repeated = self.engager[i] != NONE;
         if repeated || before.is_some_and(|before| i < before) {
-            return Err(Refusal::Form);
+            return Err(Refusal::NotAForm);
         }
         self.engager[i] = parent.unwrap_or(i);
         self.list(i)?;
@@ -96,7 +96,7 @@ impl Reader<'_> {
     }
 
     fn byte(&mut self, wanted: u8) -> Result<(), Refusal> {
-        self.rest = self.rest.strip_prefix(&[wanted]).ok_or(Refusal::Form)?;
+        self.rest = self.rest.strip_prefix(&[wanted]).ok_or(Refusal::NotAForm)?;
         Ok(())
     }
 
@@ -104,11 +104,11 @@ impl Reader<'_> {
     fn number(&mut self) -> Result<usize, Refusal> {
         let (digits, rest) = self.rest.split_at(decimal::digits(self.rest));
         if digits.is_empty() || decimal::has_leading_zero(digits) {
-            return Err(Refusal::Form);
+            return Err(Refusal::NotAForm);
         }
         let value = decimal::value(digits);
         if value >= self.n {
-            return Err(Refusal::Node);
+            return Err(Refusal::UnknownNode);
         }
         self.rest = rest;
         Ok(value)

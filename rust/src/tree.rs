@@ -28,10 +28,10 @@ impl Tree {
     /// Start: only the root is active and engaged.
     pub fn start(n: usize, root: usize) -> Result<Self, Refusal> {
         if !(1..=MAX_NODES).contains(&n) {
-            return Err(Refusal::Size);
+            return Err(Refusal::NodeCount);
         }
         if root >= n {
-            return Err(Refusal::Node);
+            return Err(Refusal::UnknownNode);
         }
         let mut tree = Self {
             n,
@@ -152,7 +152,7 @@ impl Tree {
             ACK => self.ack(i),
             LEAVE => self.leave(i),
             ANNOUNCE => self.announce(),
-            _ => Err(Refusal::Kind),
+            _ => Err(Refusal::UnknownKind),
         }
     }
 
@@ -160,7 +160,7 @@ impl Tree {
         if i < self.n {
             Ok(())
         } else {
-            Err(Refusal::Node)
+            Err(Refusal::UnknownNode)
         }
     }
 
@@ -169,7 +169,7 @@ impl Tree {
         self.check_node(i)?;
         self.check_node(j)?;
         if i == j {
-            return Err(Refusal::SelfSend);
+            return Err(Refusal::SelfMessage);
         }
         require(self.active[i])?;
         if u64::from(self.sends) >= SEND_LIMIT {

@@ -42,25 +42,25 @@ fn start_sets_flags_and_token() {
 #[test]
 fn start_refuses_sizes_then_flags() {
     for n in [0, 97, 1_000, usize::MAX] {
-        assert_eq!(Ring::start(n, &[9]), Err(Refusal::Size));
+        assert_eq!(Ring::start(n, &[9]), Err(Refusal::NodeCount));
     }
     for n in [1, 2, 95, 96] {
         assert!(Ring::start(n, &vec![3; n]).is_ok());
-        assert_eq!(Ring::start(n, &vec![0; n - 1]), Err(Refusal::Flags));
-        assert_eq!(Ring::start(n, &vec![0; n + 1]), Err(Refusal::Flags));
-        assert_eq!(Ring::start(n, &vec![4; n]), Err(Refusal::Flags));
+        assert_eq!(Ring::start(n, &vec![0; n - 1]), Err(Refusal::StartFlags));
+        assert_eq!(Ring::start(n, &vec![0; n + 1]), Err(Refusal::StartFlags));
+        assert_eq!(Ring::start(n, &vec![4; n]), Err(Refusal::StartFlags));
     }
-    assert_eq!(Ring::start(3, &[0, 0, 255]), Err(Refusal::Flags));
+    assert_eq!(Ring::start(3, &[0, 0, 255]), Err(Refusal::StartFlags));
 }
 
 /// The paper's first run: the listing, four moves, the bound for N = 2.
 #[test]
 fn listing_by_calls() {
     let first = start(&[0, BLACK]);
-    assert_refused(&first, (ANNOUNCE, 0, 0), Refusal::Condition);
+    assert_refused(&first, (ANNOUNCE, 0, 0), Refusal::RuleFails);
     let one_round = after(first, &[(PROBE, 0, 0), (PASS, 1, 0)]);
     assert!(one_round.token.black && !one_round.is_black(1));
-    assert_refused(&one_round, (ANNOUNCE, 0, 0), Refusal::Condition);
+    assert_refused(&one_round, (ANNOUNCE, 0, 0), Refusal::RuleFails);
     let closed = after(one_round, &[(PROBE, 0, 0), (PASS, 1, 0), (ANNOUNCE, 0, 0)]);
     assert!(closed.closed);
     assert_refused(&closed, (PASS, 1, 0), Refusal::Closed);
@@ -108,10 +108,10 @@ fn receipt_before_the_token_takes_five_moves() {
 #[test]
 fn ring_of_one() {
     let first = start(&[0]);
-    assert_refused(&first, (ANNOUNCE, 0, 0), Refusal::Condition);
+    assert_refused(&first, (ANNOUNCE, 0, 0), Refusal::RuleFails);
     let probed = after(first, &[(PROBE, 0, 0)]);
-    assert_refused(&probed, (PROBE, 0, 0), Refusal::Condition);
-    assert_refused(&probed, (PASS, 0, 0), Refusal::Condition);
+    assert_refused(&probed, (PROBE, 0, 0), Refusal::RuleFails);
+    assert_refused(&probed, (PASS, 0, 0), Refusal::RuleFails);
     after(probed, &[(ANNOUNCE, 0, 0)]);
 }
 
@@ -211,7 +211,7 @@ fn take_blackens_and_activates() {
 fn probe_needs_one_of_three_reasons() {
     let mut ring = start(&[ACTIVE, 0]);
     ring.token.black = false;
-    assert_refused(&ring, (PROBE, 0, 0), Refusal::Condition);
+    assert_refused(&ring, (PROBE, 0, 0), Refusal::RuleFails);
     let mut black_token = ring.clone();
     black_token.token.black = true;
     let mut black_zero = ring.clone();
@@ -242,8 +242,8 @@ fn pass_adds_the_counter_and_keeps_black() {
         ],
     );
     assert!(ring.token.black && ring.token.q == 0);
-    assert_refused(&ring, (PASS, 1, 0), Refusal::Condition);
-    assert_refused(&ring, (PASS, 2, 0), Refusal::Condition);
+    assert_refused(&ring, (PASS, 1, 0), Refusal::RuleFails);
+    assert_refused(&ring, (PASS, 2, 0), Refusal::RuleFails);
     let ring = after(ring, &[(IDLE, 1, 0), (PASS, 1, 0)]);
     assert_eq!(
         ring.token,
@@ -258,22 +258,22 @@ fn pass_adds_the_counter_and_keeps_black() {
 #[test]
 fn refusals_in_the_order_of_the_table() {
     let open = start(&[ACTIVE, 0, 0]);
-    assert_refused(&open, (0, 99, 99), Refusal::Kind);
-    assert_refused(&open, (7, 99, 99), Refusal::Kind);
-    assert_refused(&open, (u32::MAX, 0, 0), Refusal::Kind);
+    assert_refused(&open, (0, 99, 99), Refusal::UnknownKind);
+    assert_refused(&open, (7, 99, 99), Refusal::UnknownKind);
+    assert_refused(&open, (u32::MAX, 0, 0), Refusal::UnknownKind);
     for kind in [TAKE, IDLE, PASS] {
-        assert_refused(&open, (kind, 3, 0), Refusal::Node);
-        assert_refused(&open, (kind, usize::MAX, 0), Refusal::Node);
+        assert_refused(&open, (kind, 3, 0), Refusal::UnknownNode);
+        assert_refused(&open, (kind, usize::MAX, 0), Refusal::UnknownNode);
     }
-    assert_refused(&open, (SEND, 3, 3), Refusal::Node);
-    assert_refused(&open, (SEND, 0, 3), Refusal::Node);
-    assert_refused(&open, (SEND, 3, 0), Refusal::Node);
-    assert_refused(&open, (SEND, 0, 0), Refusal::SelfSend);
-    assert_refused(&open, (SEND, 2, 2), Refusal::SelfSend);
-    assert_refused(&open, (SEND, 2, 0), Refusal::Condition);
-    assert_refused(&open, (TAKE, 1, 0), Refusal::Condition);
-    assert_refused(&open, (IDLE, 1, 0), Refusal::Condition);
-    assert_refused(&open, (PASS, 0, 0), Refusal::Condition);
+    assert_refused(&open, (SEND, 3, 3), Refusal::UnknownNode);
+    assert_refused(&open, (SEND, 0, 3), Refusal::UnknownNode);
+    assert_refused(&open, (SEND, 3, 0), Refusal::UnknownNode);
+    assert_refused(&open, (SEND, 0, 0), Refusal::SelfMessage);
+    assert_refused(&open, (SEND, 2, 2), Refusal::SelfMessage);
+    assert_refused(&open, (SEND, 2, 0), Refusal::RuleFails);
+    assert_refused(&open, (TAKE, 1, 0), Refusal::RuleFails);
+    assert_refused(&open, (IDLE, 1, 0), Refusal::RuleFails);
+    assert_refused(&open, (PASS, 0, 0), Refusal::RuleFails);
     // Numbers that a kind does not use are not read.
     let mut ring = open.clone();
     assert_eq!(ring.step(Request::new(IDLE, 0, 99)), Ok(()));
@@ -296,7 +296,7 @@ fn send_limit() {
     assert!(ring.is_sound());
     let ring = after(ring, &[(SEND, 0, 1)]);
     assert_refused(&ring, (SEND, 0, 1), Refusal::SendLimit);
-    assert_refused(&ring, (SEND, 1, 0), Refusal::Condition);
+    assert_refused(&ring, (SEND, 1, 0), Refusal::RuleFails);
     let ring = after(ring, &[(TAKE, 1, 0), (TAKE, 1, 0)]);
     assert_eq!((ring.received[1], ring.pending[1]), (1_000_000, 0));
     assert_refused(&ring, (SEND, 1, 0), Refusal::SendLimit);

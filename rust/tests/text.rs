@@ -48,7 +48,7 @@ fn buffer_is_checked_after_soundness() {
     let text = b"(0 (1) (2 (3)))";
     for length in 0..text.len() {
         let mut buffer = vec![7; length];
-        assert_eq!(write(&tree, &mut buffer), Err(Refusal::Buffer));
+        assert_eq!(write(&tree, &mut buffer), Err(Refusal::ShortBuffer));
         assert_eq!(buffer, vec![7; length]);
     }
     for spare in [0, 1, 50] {
@@ -110,68 +110,68 @@ fn faults() {
     let long_open = format!("(1{}", "0".repeat(99));
     let long_zeros = format!("(0{})", "0".repeat(400));
     let cases: &[(&str, Refusal)] = &[
-        ("", Refusal::Form),
-        ("(", Refusal::Form),
-        ("()", Refusal::Form),
-        ("0", Refusal::Form),
-        ("( 0)", Refusal::Form),
-        (" (0)", Refusal::Form),
-        ("(0) ", Refusal::Form),
-        ("(0)\n", Refusal::Form),
-        ("(0))", Refusal::Form),
-        ("(0)(1)", Refusal::Form),
-        ("(0 )", Refusal::Form),
-        ("(0 (1)", Refusal::Form),
-        ("(0 (1", Refusal::Form),
-        ("(0 1)", Refusal::Form),
-        ("(0(1))", Refusal::Form),
-        ("(0  (1))", Refusal::Form),
-        ("(0\t(1))", Refusal::Form),
-        ("(00)", Refusal::Form),
-        ("(01)", Refusal::Form),
-        ("(0 (03))", Refusal::Form),
-        ("(0 (09999))", Refusal::Form),
-        ("(-1)", Refusal::Form),
-        ("(x)", Refusal::Form),
-        ("(0 (2) (1))", Refusal::Form),
-        ("(0 (1) (1))", Refusal::Form),
-        ("(0 (0))", Refusal::Form),
-        ("(0 (1 (2)) (2))", Refusal::Form),
-        ("(0 (1 (0)))", Refusal::Form),
-        ("(3)", Refusal::Node),
-        ("(3", Refusal::Node),
-        ("(3x", Refusal::Node),
-        ("(99999999999999999999 x", Refusal::Node),
-        ("(0 (3))", Refusal::Node),
-        ("(0 (4 (0) (00", Refusal::Node),
-        ("(0 (18446744073709551616))", Refusal::Node),
-        ("(18446744073709551617)", Refusal::Node),
-        ("(4294967296)", Refusal::Node),
-        ("(256)", Refusal::Node),
+        ("", Refusal::NotAForm),
+        ("(", Refusal::NotAForm),
+        ("()", Refusal::NotAForm),
+        ("0", Refusal::NotAForm),
+        ("( 0)", Refusal::NotAForm),
+        (" (0)", Refusal::NotAForm),
+        ("(0) ", Refusal::NotAForm),
+        ("(0)\n", Refusal::NotAForm),
+        ("(0))", Refusal::NotAForm),
+        ("(0)(1)", Refusal::NotAForm),
+        ("(0 )", Refusal::NotAForm),
+        ("(0 (1)", Refusal::NotAForm),
+        ("(0 (1", Refusal::NotAForm),
+        ("(0 1)", Refusal::NotAForm),
+        ("(0(1))", Refusal::NotAForm),
+        ("(0  (1))", Refusal::NotAForm),
+        ("(0\t(1))", Refusal::NotAForm),
+        ("(00)", Refusal::NotAForm),
+        ("(01)", Refusal::NotAForm),
+        ("(0 (03))", Refusal::NotAForm),
+        ("(0 (09999))", Refusal::NotAForm),
+        ("(-1)", Refusal::NotAForm),
+        ("(x)", Refusal::NotAForm),
+        ("(0 (2) (1))", Refusal::NotAForm),
+        ("(0 (1) (1))", Refusal::NotAForm),
+        ("(0 (0))", Refusal::NotAForm),
+        ("(0 (1 (2)) (2))", Refusal::NotAForm),
+        ("(0 (1 (0)))", Refusal::NotAForm),
+        ("(3)", Refusal::UnknownNode),
+        ("(3", Refusal::UnknownNode),
+        ("(3x", Refusal::UnknownNode),
+        ("(99999999999999999999 x", Refusal::UnknownNode),
+        ("(0 (3))", Refusal::UnknownNode),
+        ("(0 (4 (0) (00", Refusal::UnknownNode),
+        ("(0 (18446744073709551616))", Refusal::UnknownNode),
+        ("(18446744073709551617)", Refusal::UnknownNode),
+        ("(4294967296)", Refusal::UnknownNode),
+        ("(256)", Refusal::UnknownNode),
         // The first fault from the left decides.
-        ("(0 (2) (1 (9)))", Refusal::Form),
-        ("(0 (2) (9) (1))", Refusal::Node),
-        ("(0 (0 (9)))", Refusal::Form),
-        ("(0 (1) (3 (1)))", Refusal::Node),
-        ("(0  (9))", Refusal::Form),
-        (&long, Refusal::Node),
-        (&long_open, Refusal::Node),
-        (&long_zeros, Refusal::Form),
+        ("(0 (2) (1 (9)))", Refusal::NotAForm),
+        ("(0 (2) (9) (1))", Refusal::UnknownNode),
+        ("(0 (0 (9)))", Refusal::NotAForm),
+        ("(0 (1) (3 (1)))", Refusal::UnknownNode),
+        ("(0  (9))", Refusal::NotAForm),
+        (&long, Refusal::UnknownNode),
+        (&long_open, Refusal::UnknownNode),
+        (&long_zeros, Refusal::NotAForm),
     ];
     for (text, refusal) in cases {
         assert_eq!(read(3, text.as_bytes()), Err(*refusal), "{text}");
     }
-    assert_eq!(read(3, b"(\xff)"), Err(Refusal::Form));
-    assert_eq!(read(3, b"(0\0)"), Err(Refusal::Form));
-    assert_eq!(read(16, b"(0 (16))"), Err(Refusal::Node));
-    assert_eq!(read(16, b"(0 (10) (9))"), Err(Refusal::Form));
+    assert_eq!(read(3, b"(\xff)"), Err(Refusal::NotAForm));
+    assert_eq!(read(3, b"(0\0)"), Err(Refusal::NotAForm));
+    assert_eq!(read(16, b"(0 (16))"), Err(Refusal::UnknownNode));
+    assert_eq!(read(16, b"(0 (10) (9))"), Err(Refusal::NotAForm));
 }
 
 #[test]
 fn size_is_checked_first() {
     for n in [0, 17, usize::MAX] {
-        assert_eq!(read(n, b"(0)"), Err(Refusal::Size));
-        assert_eq!(read(n, b"x"), Err(Refusal::Size));
+        assert_eq!(read(n, b"(0)"), Err(Refusal::NodeCount));
+        assert_eq!(read(n, b"x"), Err(Refusal::NodeCount));
     }
 }
 
@@ -179,7 +179,7 @@ fn size_is_checked_first() {
 fn every_cut_of_a_text_is_a_fault() {
     let text = b"(0 (1) (2 (3)))";
     for end in 0..text.len() {
-        assert_eq!(read(4, &text[..end]), Err(Refusal::Form));
+        assert_eq!(read(4, &text[..end]), Err(Refusal::NotAForm));
     }
 }
 

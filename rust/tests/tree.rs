@@ -40,12 +40,12 @@ fn starts() {
     let active: Vec<usize> = (0..16).filter(|&i| tree.active[i]).collect();
     assert_eq!(active, [2]);
     for n in [0, 17, 96, usize::MAX] {
-        assert_eq!(Tree::start(n, n), Err(Refusal::Size));
+        assert_eq!(Tree::start(n, n), Err(Refusal::NodeCount));
     }
     for n in [1, 2, 16] {
         assert!(Tree::start(n, n - 1).is_ok());
-        assert_eq!(Tree::start(n, n), Err(Refusal::Node));
-        assert_eq!(Tree::start(n, usize::MAX), Err(Refusal::Node));
+        assert_eq!(Tree::start(n, n), Err(Refusal::UnknownNode));
+        assert_eq!(Tree::start(n, usize::MAX), Err(Refusal::UnknownNode));
     }
 }
 
@@ -62,7 +62,7 @@ fn run_to_check() {
             (LEAVE, 1, 0),
         ],
     );
-    assert_refused(&left, (ANNOUNCE, 0, 0), Refusal::Condition);
+    assert_refused(&left, (ANNOUNCE, 0, 0), Refusal::RuleFails);
     let closed = after(left, &[(ACK, 0, 0), (ANNOUNCE, 0, 0)]);
     assert!(closed.closed);
     assert_refused(&closed, (9, 99, 99), Refusal::Closed);
@@ -79,18 +79,18 @@ fn engaging_message_is_acknowledged_by_leaving() {
     assert_eq!(to_root.engager[0], 0);
     assert_eq!((to_root.acks[1], to_root.unacked[1]), (1, 1));
     let passive = after(to_root, &[(IDLE, 1, 0)]);
-    assert_refused(&passive, (LEAVE, 1, 0), Refusal::Condition);
+    assert_refused(&passive, (LEAVE, 1, 0), Refusal::RuleFails);
     let left = after(passive, &[(ACK, 1, 0), (LEAVE, 1, 0)]);
     assert_eq!((left.engager[1], left.acks[0]), (NONE, 2));
-    assert_refused(&left, (LEAVE, 1, 0), Refusal::Condition);
+    assert_refused(&left, (LEAVE, 1, 0), Refusal::RuleFails);
 }
 
 #[test]
 fn announcing_needs_a_passive_root_without_unacked() {
     let tree = start(2, 0);
-    assert_refused(&tree, (ANNOUNCE, 0, 0), Refusal::Condition);
+    assert_refused(&tree, (ANNOUNCE, 0, 0), Refusal::RuleFails);
     let waiting = after(tree, &[(SEND, 0, 1), (IDLE, 0, 0)]);
-    assert_refused(&waiting, (ANNOUNCE, 0, 0), Refusal::Condition);
+    assert_refused(&waiting, (ANNOUNCE, 0, 0), Refusal::RuleFails);
     after(start(1, 0), &[(IDLE, 0, 0), (ANNOUNCE, 0, 0)]);
 }
 
@@ -98,8 +98,8 @@ fn announcing_needs_a_passive_root_without_unacked() {
 fn take_moves_one_message_of_its_pair() {
     let sent = after(start(4, 1), &[(SEND, 1, 3), (SEND, 1, 3), (SEND, 1, 0)]);
     assert_eq!(sent.sends, 3);
-    assert_refused(&sent, (TAKE, 1, 3), Refusal::Condition);
-    assert_refused(&sent, (TAKE, 3, 3), Refusal::Condition);
+    assert_refused(&sent, (TAKE, 1, 3), Refusal::RuleFails);
+    assert_refused(&sent, (TAKE, 3, 3), Refusal::RuleFails);
     let taken = after(sent, &[(TAKE, 3, 1)]);
     assert_eq!((taken.in_transit[1][3], taken.in_transit[1][0]), (1, 1));
     assert!(taken.active[3] && taken.engager[3] == 1);
@@ -109,28 +109,28 @@ fn take_moves_one_message_of_its_pair() {
 fn refusals_in_the_order_of_the_table() {
     let open = start(3, 0);
     for kind in [0, 7, u32::MAX] {
-        assert_refused(&open, (kind, 99, 99), Refusal::Kind);
+        assert_refused(&open, (kind, 99, 99), Refusal::UnknownKind);
     }
     for kind in [IDLE, ACK, LEAVE] {
-        assert_refused(&open, (kind, 3, 0), Refusal::Node);
+        assert_refused(&open, (kind, 3, 0), Refusal::UnknownNode);
     }
     for kind in [SEND, TAKE] {
-        assert_refused(&open, (kind, 3, 0), Refusal::Node);
-        assert_refused(&open, (kind, 0, 3), Refusal::Node);
-        assert_refused(&open, (kind, 16, 16), Refusal::Node);
-        assert_refused(&open, (kind, usize::MAX, usize::MAX), Refusal::Node);
+        assert_refused(&open, (kind, 3, 0), Refusal::UnknownNode);
+        assert_refused(&open, (kind, 0, 3), Refusal::UnknownNode);
+        assert_refused(&open, (kind, 16, 16), Refusal::UnknownNode);
+        assert_refused(&open, (kind, usize::MAX, usize::MAX), Refusal::UnknownNode);
     }
-    assert_refused(&open, (SEND, 2, 2), Refusal::SelfSend);
-    assert_refused(&open, (SEND, 2, 0), Refusal::Condition);
-    assert_refused(&open, (TAKE, 1, 0), Refusal::Condition);
-    assert_refused(&open, (IDLE, 1, 0), Refusal::Condition);
-    assert_refused(&open, (ACK, 0, 0), Refusal::Condition);
-    assert_refused(&open, (LEAVE, 0, 0), Refusal::Condition);
-    assert_refused(&open, (LEAVE, 1, 0), Refusal::Condition);
+    assert_refused(&open, (SEND, 2, 2), Refusal::SelfMessage);
+    assert_refused(&open, (SEND, 2, 0), Refusal::RuleFails);
+    assert_refused(&open, (TAKE, 1, 0), Refusal::RuleFails);
+    assert_refused(&open, (IDLE, 1, 0), Refusal::RuleFails);
+    assert_refused(&open, (ACK, 0, 0), Refusal::RuleFails);
+    assert_refused(&open, (LEAVE, 0, 0), Refusal::RuleFails);
+    assert_refused(&open, (LEAVE, 1, 0), Refusal::RuleFails);
     // Numbers that a kind does not use are not read.
     let mut tree = open;
     assert_eq!(tree.step(Request::new(IDLE, 0, 99)), Ok(()));
-    assert_refused(&tree, (LEAVE, 0, 0), Refusal::Condition);
+    assert_refused(&tree, (LEAVE, 0, 0), Refusal::RuleFails);
     assert_eq!(tree.step(Request::new(ANNOUNCE, 99, 99)), Ok(()));
     assert_refused(&tree, (SEND, 1, 1), Refusal::Closed);
     tree.active[0] = true;
@@ -143,7 +143,7 @@ fn send_limit() {
     tree.sends = 999_999;
     let tree = after(tree, &[(SEND, 0, 1)]);
     assert_refused(&tree, (SEND, 0, 1), Refusal::SendLimit);
-    assert_refused(&tree, (SEND, 1, 0), Refusal::Condition);
+    assert_refused(&tree, (SEND, 1, 0), Refusal::RuleFails);
     let tree = after(tree, &[(TAKE, 1, 0)]);
     assert_refused(&tree, (SEND, 1, 0), Refusal::SendLimit);
 }
