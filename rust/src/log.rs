@@ -8,9 +8,9 @@ use crate::text;
 use crate::tree::Tree;
 
 /// Bytes of the longest line, its byte 10 among them.
-pub const LINE_LIMIT: usize = 700;
+pub const LINE_BYTES: usize = 700;
 /// Lines that are read; what follows them is not.
-pub const LINES_LIMIT: u32 = 1_000_000;
+pub const LINE_LIMIT: u32 = 1_000_000;
 /// Digits of the longest number.
 const DIGIT_LIMIT: usize = 5;
 
@@ -63,13 +63,13 @@ impl Log {
         Self {
             run: Run::Unstarted,
             lines: 0,
-            held: Vec::with_capacity(LINE_LIMIT + 1),
+            held: Vec::with_capacity(LINE_BYTES + 1),
         }
     }
 
     /// Whether no further byte of the log is read.
     pub fn is_over(&self) -> bool {
-        self.lines == LINES_LIMIT || matches!(self.run, Run::Refused)
+        self.lines == LINE_LIMIT || matches!(self.run, Run::Refused)
     }
 
     /// Takes the next piece of the log and appends the answers to `out`.
@@ -105,7 +105,7 @@ impl Log {
 
     /// Keeps the start of a line, one byte past the limit at most.
     fn hold(&mut self, bytes: &[u8]) {
-        let room = LINE_LIMIT + 1 - self.held.len();
+        let room = LINE_BYTES + 1 - self.held.len();
         self.held.extend_from_slice(&bytes[..bytes.len().min(room)]);
     }
 
@@ -160,7 +160,7 @@ impl RingRun {
 
 /// What stands between the outer brackets of a line that is not too long.
 fn form_of(line: &[u8]) -> Result<&[u8], Refusal> {
-    if line.len() > LINE_LIMIT {
+    if line.len() > LINE_BYTES {
         return Err(Refusal::NotAForm);
     }
     line.strip_prefix(b"(")
@@ -252,18 +252,18 @@ fn split_word(form: &[u8]) -> (&[u8], Items<'_>) {
     (word, Items { rest })
 }
 
-fn none(kind: u32, items: Items) -> Result<Request, Refusal> {
+fn none(kind: usize, items: Items) -> Result<Request, Refusal> {
     items.end()?;
     Ok(Request::new(kind, 0, 0))
 }
 
-fn one(kind: u32, mut items: Items) -> Result<Request, Refusal> {
+fn one(kind: usize, mut items: Items) -> Result<Request, Refusal> {
     let i = items.spaced_number()?;
     items.end()?;
     Ok(Request::new(kind, i, 0))
 }
 
-fn two(kind: u32, mut items: Items) -> Result<Request, Refusal> {
+fn two(kind: usize, mut items: Items) -> Result<Request, Refusal> {
     let i = items.spaced_number()?;
     let j = items.spaced_number()?;
     items.end()?;

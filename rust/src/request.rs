@@ -1,32 +1,32 @@
 //! A request for one step, by kind number: paper, "The ring", "The tree".
 
-pub const SEND: u32 = 1;
-pub const TAKE: u32 = 2;
-pub const IDLE: u32 = 3;
+pub const SEND: usize = 1;
+pub const TAKE: usize = 2;
+pub const IDLE: usize = 3;
 /// Ring only.
-pub const PROBE: u32 = 4;
+pub const PROBE: usize = 4;
 /// Ring only.
-pub const PASS: u32 = 5;
+pub const PASS: usize = 5;
 /// Tree only.
-pub const ACK: u32 = 4;
+pub const ACK: usize = 4;
 /// Tree only.
-pub const LEAVE: u32 = 5;
-pub const ANNOUNCE: u32 = 6;
+pub const LEAVE: usize = 5;
+pub const ANNOUNCE: usize = 6;
 
 /// Sends that one run accepts: refusal 9.
-pub const SEND_LIMIT: u64 = 1_000_000;
+pub const SEND_LIMIT: u32 = 1_000_000;
 
 /// A step's kind and node numbers; those that the kind does not use are not read.
 #[derive(Clone, Copy, Debug, PartialEq, Eq)]
 pub struct Request {
-    pub kind: u32,
+    pub kind: usize,
     pub i: usize,
     /// The receiver of a send, the sender of a tree's take.
     pub j: usize,
 }
 
 impl Request {
-    pub fn new(kind: u32, i: usize, j: usize) -> Self {
+    pub fn new(kind: usize, i: usize, j: usize) -> Self {
         Self { kind, i, j }
     }
 }

@@ -4,9 +4,10 @@ use crate::refusal::{require, Refusal};
 use crate::request::{Request, ANNOUNCE, IDLE, PASS, PROBE, SEND, SEND_LIMIT, TAKE};
 
 pub const MAX_NODES: usize = 96;
-pub const COLOR_BYTES: usize = 12;
+/// Eight nodes a byte.
+pub const COLOR_BYTES: usize = MAX_NODES / 8;
 /// The largest move limit of the driver: refusal 11.
-pub const MOVE_LIMIT: u32 = 1_000;
+pub const MOVE_LIMIT: usize = 1_000;
 
 /// The token: the node that holds it, the sum it carries and its color.
 #[derive(Clone, Copy, Debug, PartialEq, Eq)]
@@ -21,7 +22,7 @@ pub struct Token {
 pub struct Ring {
     pub n: usize,
     pub active: [bool; MAX_NODES],
-    /// Eight nodes a byte, bit 0 lowest; 1 is black.
+    /// Bit 0 is the lowest node of its byte; 1 is black.
     pub color: [u8; COLOR_BYTES],
     pub sent: [u32; MAX_NODES],
     pub received: [u32; MAX_NODES],
@@ -136,13 +137,13 @@ impl Ring {
     /// Sends are within the limit and equal receipts plus messages in transit.
     fn totals_agree(&self) -> bool {
         let sent = total(&self.sent);
-        sent <= SEND_LIMIT && sent == total(&self.received) + total(&self.pending)
+        sent <= u64::from(SEND_LIMIT) && sent == total(&self.received) + total(&self.pending)
     }
 
     /// q lies within (N - 1 - pos) * 1,000,000 either side of 0.
     fn q_is_in_range(&self) -> bool {
         let passed = (self.n - 1 - self.token.pos) as u64;
-        self.token.q.unsigned_abs() <= passed * SEND_LIMIT
+        self.token.q.unsigned_abs() <= passed * u64::from(SEND_LIMIT)
     }
 
     /// One of Safra's four holds.
@@ -242,7 +243,7 @@ impl Ring {
             return Err(Refusal::SelfMessage);
         }
         require(self.active[i])?;
-        if sends >= SEND_LIMIT {
+        if sends >= u64::from(SEND_LIMIT) {
             return Err(Refusal::SendLimit);
         }
         self.sent[i] += 1;
@@ -302,7 +303,7 @@ impl Ring {
     }
 
     /// The driver: token moves until the run is conclusive, waiting or spent.
-    pub fn drive(&mut self, limit: u32) -> Result<Drive, Refusal> {
+    pub fn drive(&mut self, limit: usize) -> Result<Drive, Refusal> {
         if !self.is_sound() {
             return Err(Refusal::Unsound);
         }
@@ -319,7 +320,7 @@ impl Ring {
             } else {
                 match self.token_move() {
                     None => Reason::Waiting,
-                    Some(_) if moves == limit => Reason::Spent,
+                    Some(_) if moves as usize == limit => Reason::Spent,
                     Some(request) => {
                         self.apply(request, 0)?;
                         moves += 1;

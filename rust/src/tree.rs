@@ -121,8 +121,7 @@ impl Tree {
     }
 
     fn sends_agree(&self) -> bool {
-        let sends = u64::from(self.sends);
-        total(&self.unacked) <= sends && sends <= SEND_LIMIT
+        total(&self.unacked) <= u64::from(self.sends) && self.sends <= SEND_LIMIT
     }
 
     /// The announce test: the condition of rule 6.
@@ -172,7 +171,7 @@ impl Tree {
             return Err(Refusal::SelfMessage);
         }
         require(self.active[i])?;
-        if u64::from(self.sends) >= SEND_LIMIT {
+        if self.sends >= SEND_LIMIT {
             return Err(Refusal::SendLimit);
         }
         self.unacked[i] += 1;

@@ -1,7 +1,7 @@
 //! The log program: the paper's runs, the forms, the limits and the streaming form.
 
 use second::generate;
-use second::log::{run, Log};
+use second::log::{run, Log, LINE_BYTES, LINE_LIMIT};
 
 /// The log of lines divided by commas, as the paper prints them, and its answers likewise.
 fn check(input: &str, output: &str) {
@@ -255,7 +255,13 @@ fn a_last_line_without_its_byte_ten() {
 #[test]
 fn long_lines_are_one_line() {
     let end = "(end (boards 2) (holder 1) (moves 1) (flight 0) (black 0))\n";
-    for length in [699, 700, 701, 1_400, 100_000] {
+    for length in [
+        LINE_BYTES - 1,
+        LINE_BYTES,
+        LINE_BYTES + 1,
+        2 * LINE_BYTES,
+        100_000,
+    ] {
         let mut log = b"(ring 2)\n".to_vec();
         log.extend(vec![b'x'; length]);
         log.extend(b"(probe)\n(probe)\n");
@@ -285,10 +291,10 @@ fn first_line_of(length: usize) -> Vec<u8> {
 }
 
 #[test]
-fn the_longest_line_has_seven_hundred_bytes() {
-    assert_eq!(700 % 6, 4);
-    assert_eq!(answers(&first_line_of(700)), "(no 1 6)\n");
-    assert_eq!(answers(&first_line_of(701)), "(no 1 10)\n");
+fn the_longest_line() {
+    assert_eq!(LINE_BYTES % 6, 4);
+    assert_eq!(answers(&first_line_of(LINE_BYTES)), "(no 1 6)\n");
+    assert_eq!(answers(&first_line_of(LINE_BYTES + 1)), "(no 1 10)\n");
 }
 
 #[test]
@@ -305,7 +311,7 @@ fn the_longest_useful_start() {
 #[test]
 fn lines_past_the_limit_are_not_read() {
     let mut log = b"(ring 2)\n".to_vec();
-    log.extend(b"(x)\n".repeat(999_998));
+    log.extend(b"(x)\n".repeat(LINE_LIMIT as usize - 2));
     log.extend(b"(probe)\n(pass 1)\n");
     let text = answers(&log);
     assert!(text.ends_with(
@@ -331,7 +337,12 @@ fn fed(pieces: &[&[u8]]) -> Vec<u8> {
 
 #[test]
 fn cut_anywhere_it_answers_alike() {
-    let long = [b"(ring 2)\n", &[b'x'; 705][..], b"\n(probe)\n(pass 1)"].concat();
+    let long = [
+        b"(ring 2)\n",
+        &[b'x'; LINE_BYTES + 5][..],
+        b"\n(probe)\n(pass 1)",
+    ]
+    .concat();
     let logs: [&[u8]; 6] = [
         b"(ring 2 (active) (black 1))\n(announce)\n(probe)\n(pass 1)\n\n(probe)\n",
         b"(tree 3 (root 0))\n(send 0 1)\n(take 1 0)\n(idle 0)\r\n(leave 1)",
@@ -355,7 +366,14 @@ fn generated_logs_cut_in_pieces() {
     for seed in 0..320 {
         let log = generate::log(seed, 40);
         let whole = run(&log);
-        for length in [1, 7, 699, 700, 701, 702] {
+        for length in [
+            1,
+            7,
+            LINE_BYTES - 1,
+            LINE_BYTES,
+            LINE_BYTES + 1,
+            LINE_BYTES + 2,
+        ] {
             let pieces: Vec<&[u8]> = log.chunks(length).collect();
             assert_eq!(fed(&pieces), whole, "seed {seed}, pieces of {length}");
         }

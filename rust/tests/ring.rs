@@ -1,14 +1,14 @@
 //! The ring by calls: starts, soundness, the six rules and the driver.
 
 use second::refusal::Refusal;
-use second::request::{Request, ANNOUNCE, IDLE, PASS, PROBE, SEND, TAKE};
-use second::ring::{Drive, Reason, Ring, Token};
+use second::request::{Request, ANNOUNCE, IDLE, PASS, PROBE, SEND, SEND_LIMIT, TAKE};
+use second::ring::{Drive, Reason, Ring, Token, MAX_NODES, MOVE_LIMIT};
 
 mod common;
 
 use common::{after, assert_refused, start, ACTIVE, BLACK};
 
-fn driven(ring: &Ring, limit: u32) -> (Drive, Ring) {
+fn driven(ring: &Ring, limit: usize) -> (Drive, Ring) {
     let mut ring = ring.clone();
     let drive = ring.drive(limit).expect("an accepted drive");
     (drive, ring)
@@ -21,7 +21,7 @@ fn drive(reason: Reason, moves: u32) -> Drive {
 #[test]
 fn start_sets_flags_and_token() {
     let ring = start(&[0, 1, 2, 3, 0, 0, 0, 0, 2, 1]);
-    let active: Vec<usize> = (0..96).filter(|&i| ring.active[i]).collect();
+    let active: Vec<usize> = (0..MAX_NODES).filter(|&i| ring.active[i]).collect();
     assert_eq!(active, [1, 3, 9]);
     assert_eq!(ring.color, [0b1100, 1, 0, 0, 0, 0, 0, 0, 0, 0, 0, 0]);
     assert_eq!(
@@ -32,19 +32,19 @@ fn start_sets_flags_and_token() {
             black: true
         }
     );
-    assert_eq!(ring.sent, [0; 96]);
-    assert_eq!(ring.received, [0; 96]);
-    assert_eq!(ring.pending, [0; 96]);
+    assert_eq!(ring.sent, [0; MAX_NODES]);
+    assert_eq!(ring.received, [0; MAX_NODES]);
+    assert_eq!(ring.pending, [0; MAX_NODES]);
     assert!(!ring.closed && ring.is_sound());
     assert_eq!(ring.black_nodes(), 3);
 }
 
 #[test]
 fn start_refuses_sizes_then_flags() {
-    for n in [0, 97, 1_000, usize::MAX] {
+    for n in [0, MAX_NODES + 1, 1 << 32 | 1, usize::MAX] {
         assert_eq!(Ring::start(n, &[9]), Err(Refusal::NodeCount));
     }
-    for n in [1, 2, 95, 96] {
+    for n in [1, 2, MAX_NODES - 1, MAX_NODES] {
         assert!(Ring::start(n, &vec![3; n]).is_ok());
         assert_eq!(Ring::start(n, &vec![0; n - 1]), Err(Refusal::StartFlags));
         assert_eq!(Ring::start(n, &vec![0; n + 1]), Err(Refusal::StartFlags));
@@ -83,7 +83,7 @@ fn receipt_behind_the_token_takes_seven_moves() {
     assert_eq!(quiet.token.pos, 1);
     assert_eq!((quiet.counter(1), quiet.counter(2)), (1, -1));
     assert_eq!(driven(&quiet, 7).0, drive(Reason::Conclusive, 7));
-    assert_eq!(driven(&quiet, 1_000).0, drive(Reason::Conclusive, 7));
+    assert_eq!(driven(&quiet, MOVE_LIMIT).0, drive(Reason::Conclusive, 7));
     assert_eq!(driven(&quiet, 6).0, drive(Reason::Spent, 6));
 }
 
@@ -134,7 +134,7 @@ fn driver_on_the_first_start() {
 #[test]
 fn driver_waits_for_an_active_holder() {
     let ring = start(&[0, ACTIVE, 0]);
-    let (answer, state) = driven(&ring, 1_000);
+    let (answer, state) = driven(&ring, MOVE_LIMIT);
     assert_eq!(answer, drive(Reason::Waiting, 2));
     assert_eq!(state, after(ring, &[(PROBE, 0, 0), (PASS, 2, 0)]));
     assert_eq!(driven(&state, 0).0, drive(Reason::Waiting, 0));
@@ -154,8 +154,8 @@ fn driver_probes_again_for_a_sum_above_zero() {
         start(&[ACTIVE, 0, 0]),
         &[(SEND, 0, 1), (IDLE, 0, 0), (PROBE, 0, 0)],
     );
-    let (answer, state) = driven(&ring, 1_000);
-    assert_eq!(answer, drive(Reason::Spent, 1_000));
+    let (answer, state) = driven(&ring, MOVE_LIMIT);
+    assert_eq!(answer, drive(Reason::Spent, MOVE_LIMIT as u32));
     // 2 passes and a probe are one round of 3 moves: 1,000 moves end after one pass.
     assert_eq!(state.token.pos, 1);
 }
@@ -163,26 +163,28 @@ fn driver_probes_again_for_a_sum_above_zero() {
 #[test]
 fn driver_refusals_in_order() {
     let mut ring = start(&[0, 0]);
-    assert_eq!(ring.drive(1_001), Err(Refusal::MoveLimit));
+    for limit in [MOVE_LIMIT + 1, 1 << 32, 1 << 32 | 5, usize::MAX] {
+        assert_eq!(ring.drive(limit), Err(Refusal::MoveLimit));
+    }
     assert_eq!(ring, start(&[0, 0]));
     let mut closed = after(
         ring.clone(),
         &[(PROBE, 0, 0), (PASS, 1, 0), (ANNOUNCE, 0, 0)],
     );
-    assert_eq!(closed.drive(1_001), Err(Refusal::Closed));
+    assert_eq!(closed.drive(MOVE_LIMIT + 1), Err(Refusal::Closed));
     closed.active[0] = true;
-    assert_eq!(closed.drive(1_001), Err(Refusal::Unsound));
+    assert_eq!(closed.drive(MOVE_LIMIT + 1), Err(Refusal::Unsound));
 }
 
 #[test]
 fn bound_of_every_size() {
     // All nodes white but N - 1, token black at 0: a round that stays black, one that
     // turns white. Each round is N moves.
-    for n in 1..=96 {
+    for n in 1..=MAX_NODES {
         let mut flags = vec![0; n];
         flags[n - 1] = BLACK;
         let moves = if n == 1 { 1 } else { 2 * n as u32 };
-        let answer = driven(&start(&flags), 1_000).0;
+        let answer = driven(&start(&flags), MOVE_LIMIT).0;
         assert_eq!(answer, drive(Reason::Conclusive, moves), "N = {n}");
     }
 }
@@ -260,7 +262,7 @@ fn refusals_in_the_order_of_the_table() {
     let open = start(&[ACTIVE, 0, 0]);
     assert_refused(&open, (0, 99, 99), Refusal::UnknownKind);
     assert_refused(&open, (7, 99, 99), Refusal::UnknownKind);
-    assert_refused(&open, (u32::MAX, 0, 0), Refusal::UnknownKind);
+    assert_refused(&open, (usize::MAX, 0, 0), Refusal::UnknownKind);
     for kind in [TAKE, IDLE, PASS] {
         assert_refused(&open, (kind, 3, 0), Refusal::UnknownNode);
         assert_refused(&open, (kind, usize::MAX, 0), Refusal::UnknownNode);
@@ -290,14 +292,14 @@ fn refusals_in_the_order_of_the_table() {
 #[test]
 fn send_limit() {
     let mut ring = start(&[ACTIVE, 0]);
-    ring.sent[0] = 999_999;
-    ring.received[1] = 999_998;
+    ring.sent[0] = SEND_LIMIT - 1;
+    ring.received[1] = SEND_LIMIT - 2;
     ring.pending[1] = 1;
     assert!(ring.is_sound());
     let ring = after(ring, &[(SEND, 0, 1)]);
     assert_refused(&ring, (SEND, 0, 1), Refusal::SendLimit);
     assert_refused(&ring, (SEND, 1, 0), Refusal::RuleFails);
     let ring = after(ring, &[(TAKE, 1, 0), (TAKE, 1, 0)]);
-    assert_eq!((ring.received[1], ring.pending[1]), (1_000_000, 0));
+    assert_eq!((ring.received[1], ring.pending[1]), (SEND_LIMIT, 0));
     assert_refused(&ring, (SEND, 1, 0), Refusal::SendLimit);
 }

@@ -4,8 +4,8 @@ mod common;
 
 use common::{after, assert_refused, start, ACTIVE};
 use second::refusal::Refusal;
-use second::request::{ANNOUNCE, PASS, PROBE};
-use second::ring::Ring;
+use second::request::{ANNOUNCE, PASS, PROBE, SEND_LIMIT};
+use second::ring::{Ring, MAX_NODES};
 
 fn assert_unsound(ring: &Ring, change: impl Fn(&mut Ring)) {
     let mut changed = ring.clone();
@@ -17,13 +17,13 @@ fn assert_unsound(ring: &Ring, change: impl Fn(&mut Ring)) {
 #[test]
 fn ranges_of_a_sound_state() {
     let ring = start(&[ACTIVE, 0, 0]);
-    for n in [0, 97, usize::MAX] {
+    for n in [0, MAX_NODES + 1, usize::MAX] {
         assert_unsound(&ring, |ring| ring.n = n);
     }
-    for pos in [3, 96, usize::MAX] {
+    for pos in [3, MAX_NODES, usize::MAX] {
         assert_unsound(&ring, |ring| ring.token.pos = pos);
     }
-    for place in [3, 95] {
+    for place in [3, MAX_NODES - 1] {
         assert_unsound(&ring, |ring| ring.active[place] = true);
         assert_unsound(&ring, |ring| ring.color[place / 8] = 1 << (place % 8));
         assert_unsound(&ring, |ring| {
@@ -48,32 +48,33 @@ fn totals_of_a_sound_state() {
     assert_unsound(&ring, |ring| ring.received[0] = 1);
     assert_unsound(&ring, |ring| ring.pending[0] = 1);
     assert_unsound(&ring, |ring| {
-        ring.sent[0] = 1_000_001;
-        ring.pending[1] = 1_000_001;
+        ring.sent[0] = SEND_LIMIT + 1;
+        ring.pending[1] = SEND_LIMIT + 1;
     });
     // These totals would agree if they were cut to 32 bits.
     assert_unsound(&ring, |ring| {
         ring.sent[0] = 1;
-        ring.received = [0; 96];
+        ring.received = [0; MAX_NODES];
         ring.received[0] = u32::MAX;
         ring.pending[0] = 2;
     });
     assert_unsound(&ring, |ring| {
-        ring.n = 96;
-        ring.sent = [u32::MAX; 96];
-        ring.received = [u32::MAX; 96];
-        ring.pending = [u32::MAX; 96];
+        ring.n = MAX_NODES;
+        ring.sent = [u32::MAX; MAX_NODES];
+        ring.received = [u32::MAX; MAX_NODES];
+        ring.pending = [u32::MAX; MAX_NODES];
     });
     // Soundness does not ask who sent what to whom.
     let mut strange = start(&[0]);
-    strange.sent[0] = 1_000_000;
-    strange.pending[0] = 1_000_000;
+    strange.sent[0] = SEND_LIMIT;
+    strange.pending[0] = SEND_LIMIT;
     assert!(strange.is_sound());
 }
 
 #[test]
 fn range_of_q() {
-    for (pos, bound) in [(0, 2_000_000), (1, 1_000_000), (2, 0)] {
+    let limit = i64::from(SEND_LIMIT);
+    for (pos, bound) in [(0, 2 * limit), (1, limit), (2, 0)] {
         let mut ring = start(&[0, 0, 0]);
         ring.token.pos = pos;
         for q in [bound, -bound] {
@@ -104,7 +105,7 @@ fn safra_s_four() {
     second.sent[0] = 1;
     second.received[1] = 1;
     assert!(second.is_sound());
-    second.sent = [0; 96];
+    second.sent = [0; MAX_NODES];
     second.sent[2] = 1;
     // Now q + the counters of 0 and 1 is 1 - 1 = 0.
     assert!(!second.is_sound());

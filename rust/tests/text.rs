@@ -4,7 +4,7 @@ use second::generate::Rng;
 use second::refusal::Refusal;
 use second::request::{Request, IDLE, LEAVE, SEND, TAKE};
 use second::text::{read, write};
-use second::tree::{Tree, NONE};
+use second::tree::{Tree, MAX_NODES, NONE};
 
 /// A tree in which each pair (engager, node) was engaged in turn.
 fn engaged(n: usize, root: usize, pairs: &[(usize, usize)]) -> Tree {
@@ -29,7 +29,7 @@ fn worked_examples() {
     assert_eq!(written(&tree), "(0 (1) (2 (3)))");
     assert_eq!(written(&engaged(3, 0, &[])), "(0)");
     assert_eq!(written(&engaged(3, 2, &[(2, 1), (2, 0)])), "(2 (0) (1))");
-    let tree = engaged(16, 12, &[(12, 15), (15, 0), (12, 11), (12, 9)]);
+    let tree = engaged(MAX_NODES, 12, &[(12, 15), (15, 0), (12, 11), (12, 9)]);
     assert_eq!(written(&tree), "(12 (9) (11) (15 (0)))");
 }
 
@@ -79,8 +79,8 @@ fn a_closed_tree_is_written() {
 #[test]
 fn longest_text() {
     // 16 nodes: 32 brackets, 10 + 2 * 6 digits and 15 spaces.
-    let pairs: Vec<(usize, usize)> = (1..16).map(|i| (i - 1, i)).collect();
-    let text = written(&engaged(16, 0, &pairs));
+    let pairs: Vec<(usize, usize)> = (1..MAX_NODES).map(|i| (i - 1, i)).collect();
+    let text = written(&engaged(MAX_NODES, 0, &pairs));
     assert_eq!(text.len(), 69);
     assert!(text.starts_with("(0 (1 (2 (3 ") && text.ends_with("(15))))))))))))))))"));
 }
@@ -99,7 +99,7 @@ fn readings() {
     assert_eq!(read(1, "(0)"), (0, vec![0, NONE, NONE, NONE, NONE]));
     assert_eq!(read(5, "(3 (0) (4))"), (3, vec![3, NONE, NONE, 3, 3]));
     assert_eq!(
-        read(16, "(15 (4 (1)))"),
+        read(MAX_NODES, "(15 (4 (1)))"),
         (15, vec![NONE, 4, NONE, NONE, 15])
     );
 }
@@ -163,8 +163,8 @@ fn faults() {
     }
     assert_eq!(read(3, b"(\xff)"), Err(Refusal::NotAForm));
     assert_eq!(read(3, b"(0\0)"), Err(Refusal::NotAForm));
-    assert_eq!(read(16, b"(0 (16))"), Err(Refusal::UnknownNode));
-    assert_eq!(read(16, b"(0 (10) (9))"), Err(Refusal::NotAForm));
+    assert_eq!(read(MAX_NODES, b"(0 (16))"), Err(Refusal::UnknownNode));
+    assert_eq!(read(MAX_NODES, b"(0 (10) (9))"), Err(Refusal::NotAForm));
 }
 
 #[test]
@@ -187,7 +187,7 @@ fn every_cut_of_a_text_is_a_fault() {
 fn round_trips_over_random_trees() {
     let mut rng = Rng::new(5);
     for _ in 0..3_000 {
-        let n = 1 + rng.below(16);
+        let n = 1 + rng.below(MAX_NODES);
         let root = rng.below(n);
         let mut inside = vec![root];
         let mut outside: Vec<usize> = (0..n).filter(|&i| i != root).collect();

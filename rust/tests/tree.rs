@@ -1,15 +1,15 @@
 //! The tree by calls: starts, soundness and the six rules.
 
 use second::refusal::Refusal;
-use second::request::{Request, ACK, ANNOUNCE, IDLE, LEAVE, SEND, TAKE};
-use second::tree::{Tree, NONE};
+use second::request::{Request, ACK, ANNOUNCE, IDLE, LEAVE, SEND, SEND_LIMIT, TAKE};
+use second::tree::{Tree, MAX_NODES, NONE};
 
 fn start(n: usize, root: usize) -> Tree {
     Tree::start(n, root).expect("an accepted start")
 }
 
 /// Makes steps that must all be accepted.
-fn after(mut tree: Tree, steps: &[(u32, usize, usize)]) -> Tree {
+fn after(mut tree: Tree, steps: &[(usize, usize, usize)]) -> Tree {
     for &(kind, i, j) in steps {
         assert_eq!(
             tree.step(Request::new(kind, i, j)),
@@ -22,7 +22,7 @@ fn after(mut tree: Tree, steps: &[(u32, usize, usize)]) -> Tree {
 }
 
 /// A refused step leaves the state as it was.
-fn assert_refused(tree: &Tree, (kind, i, j): (u32, usize, usize), refusal: Refusal) {
+fn assert_refused(tree: &Tree, (kind, i, j): (usize, usize, usize), refusal: Refusal) {
     let mut same = tree.clone();
     assert_eq!(same.step(Request::new(kind, i, j)), Err(refusal));
     assert_eq!(&same, tree);
@@ -37,12 +37,12 @@ fn starts() {
         [NONE, NONE, 2, NONE],
         "only the root is engaged"
     );
-    let active: Vec<usize> = (0..16).filter(|&i| tree.active[i]).collect();
+    let active: Vec<usize> = (0..MAX_NODES).filter(|&i| tree.active[i]).collect();
     assert_eq!(active, [2]);
-    for n in [0, 17, 96, usize::MAX] {
+    for n in [0, MAX_NODES + 1, 96, usize::MAX] {
         assert_eq!(Tree::start(n, n), Err(Refusal::NodeCount));
     }
-    for n in [1, 2, 16] {
+    for n in [1, 2, MAX_NODES] {
         assert!(Tree::start(n, n - 1).is_ok());
         assert_eq!(Tree::start(n, n), Err(Refusal::UnknownNode));
         assert_eq!(Tree::start(n, usize::MAX), Err(Refusal::UnknownNode));
@@ -108,7 +108,7 @@ fn take_moves_one_message_of_its_pair() {
 #[test]
 fn refusals_in_the_order_of_the_table() {
     let open = start(3, 0);
-    for kind in [0, 7, u32::MAX] {
+    for kind in [0, 7, usize::MAX] {
         assert_refused(&open, (kind, 99, 99), Refusal::UnknownKind);
     }
     for kind in [IDLE, ACK, LEAVE] {
@@ -117,7 +117,7 @@ fn refusals_in_the_order_of_the_table() {
     for kind in [SEND, TAKE] {
         assert_refused(&open, (kind, 3, 0), Refusal::UnknownNode);
         assert_refused(&open, (kind, 0, 3), Refusal::UnknownNode);
-        assert_refused(&open, (kind, 16, 16), Refusal::UnknownNode);
+        assert_refused(&open, (kind, MAX_NODES, MAX_NODES), Refusal::UnknownNode);
         assert_refused(&open, (kind, usize::MAX, usize::MAX), Refusal::UnknownNode);
     }
     assert_refused(&open, (SEND, 2, 2), Refusal::SelfMessage);
@@ -161,7 +161,7 @@ fn ranges_of_a_sound_state() {
     for n in [0, 17, usize::MAX] {
         assert_unsound(&tree, |tree| tree.n = n);
     }
-    for root in [1, 3, 16, usize::MAX] {
+    for root in [1, 3, MAX_NODES, usize::MAX] {
         assert_unsound(&tree, |tree| tree.root = root);
     }
     for engager in [3, 15, 17, usize::MAX] {
@@ -192,9 +192,9 @@ fn ranges_of_a_sound_state() {
 #[test]
 fn chains_and_counts_of_a_sound_state() {
     let mut tree = start(4, 0);
-    tree.sends = 1_000_000;
+    tree.sends = SEND_LIMIT;
     assert!(tree.is_sound());
-    assert_unsound(&tree, |tree| tree.sends = 1_000_001);
+    assert_unsound(&tree, |tree| tree.sends = SEND_LIMIT + 1);
     assert_unsound(&tree, |tree| tree.sends = u32::MAX);
     assert_unsound(&tree, |tree| tree.active[1] = true);
     assert_unsound(&tree, |tree| tree.unacked[0] = 1);

@@ -2,12 +2,12 @@
 
 use second::generate::Rng;
 use second::request::{Request, ACK, ANNOUNCE, IDLE, LEAVE, PASS, PROBE, SEND};
-use second::ring::{Reason, Ring};
+use second::ring::{Reason, Ring, MOVE_LIMIT};
 use second::tree::Tree;
 
 /// Any request, more seldom one that sends or announces.
 fn random_request(rng: &mut Rng, n: usize, sends: bool) -> Request {
-    let kind = rng.below(8) as u32;
+    let kind = rng.below(8);
     let kind = if kind == SEND && !sends { IDLE } else { kind };
     Request::new(kind, rng.below(n + 1), rng.below(n + 1))
 }
@@ -43,7 +43,7 @@ fn all_requests(n: usize) -> impl Iterator<Item = Request> {
 /// announcement, at most 3N - 2 moves.
 fn check_quiet_ring(mut ring: Ring) {
     let mut driven = ring.clone();
-    let drive = driven.drive(1_000).expect("an open sound state");
+    let drive = driven.drive(MOVE_LIMIT).expect("an open sound state");
     let mut moves = 0;
     while !ring.is_conclusive() {
         let accepted = ring_accepts(&ring);

@@ -12,7 +12,7 @@ use lent::LentRing;
 use second::generate::Rng;
 use second::refusal::Refusal;
 use second::request::Request;
-use second::ring::{Reason, Ring, MAX_NODES};
+use second::ring::{Reason, Ring, MAX_NODES, MOVE_LIMIT};
 use second::walk::walk;
 use std::process::exit;
 
@@ -62,7 +62,17 @@ fn one_run(seed: u64, tally: &mut Tally) {
             same_calls(seed, &LentRing::of(&wild), request, &mut random);
         }
         if random.chance(10) {
-            let limit = random.pick(&[0, 1, 2, 5, 20, 286, 1_000, 1_001, u32::MAX]);
+            let limit = random.pick(&[
+                0,
+                1,
+                2,
+                5,
+                20,
+                286,
+                MOVE_LIMIT,
+                MOVE_LIMIT + 1,
+                u32::MAX as usize,
+            ]);
             same_drive(seed, &LentRing::of(&ring), limit, &mut random);
             tally.drives += 1;
         }
@@ -85,9 +95,9 @@ pub fn request(ring: &Ring, random: &mut Rng) -> Request {
         }
     }
     let kind = if random.chance(3) {
-        random.below(256) as u32
+        random.below(256)
     } else {
-        1 + random.below(6) as u32
+        1 + random.below(6)
     };
     let node = |random: &mut Rng| {
         if random.chance(2) {
@@ -128,7 +138,7 @@ fn spoiled(ring: &Ring, random: &mut Rng) -> Ring {
 pub fn same_calls(seed: u64, ring: &LentRing, request: Request, random: &mut Rng) {
     same_soundness(seed, ring);
     same_step(seed, ring, request);
-    same_drive(seed, ring, random.below(12) as u32, random);
+    same_drive(seed, ring, random.below(12), random);
 }
 
 /// The second implementation's answer; a byte that is no truth is an unsound state.
@@ -159,7 +169,7 @@ fn same_soundness(seed: u64, ring: &LentRing) {
     }
 }
 
-fn same_drive(seed: u64, ring: &LentRing, limit: u32, random: &mut Rng) {
+fn same_drive(seed: u64, ring: &LentRing, limit: usize, random: &mut Rng) {
     let noise = random.word() as u32;
     let refused = |refusal: Refusal| (refusal.number() as u8, noise, ring.clone());
     let expected = match ring.ring() {
@@ -175,7 +185,7 @@ fn same_drive(seed: u64, ring: &LentRing, limit: u32, random: &mut Rng) {
     };
     let mut theirs = ring.clone();
     let mut moves = noise;
-    let told = proved::drive(&mut theirs, limit, &mut moves);
+    let told = proved::drive(&mut theirs, limit as u32, &mut moves);
     if (told, moves, &theirs) != (expected.0, expected.1, &expected.2) {
         fail(
             seed,

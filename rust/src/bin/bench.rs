@@ -3,6 +3,7 @@
 //! Prints lines per second, and each ratio of times; below 1 the proved program is the faster.
 
 use second::generate::{busy_ring, busy_tree, moving_token};
+use second::log::LINE_LIMIT;
 use std::fs::{self, File};
 use std::io;
 use std::path::Path;
@@ -70,7 +71,9 @@ fn run(program: &str, lines: usize) -> io::Result<()> {
 
 fn main() -> ExitCode {
     let arguments: Vec<String> = std::env::args().skip(1).collect();
-    let lines = arguments.get(1).map_or(Ok(1_000_000), |n| n.parse());
+    let lines = arguments
+        .get(1)
+        .map_or(Ok(LINE_LIMIT as usize), |n| n.parse());
     let (Some(program), Ok(lines)) = (arguments.first(), lines) else {
         eprintln!("usage: bench PROGRAM [LINES]");
         return ExitCode::FAILURE;

@@ -1,15 +1,16 @@
 //! Writes a benchmark log to standard output: `logs busy|token|tree [LINES]`.
 
 use second::generate::{busy_ring, busy_tree, moving_token};
+use second::log::LINE_LIMIT;
 use std::io::{self, Write};
 use std::process::ExitCode;
-
-const LINES: usize = 1_000_000;
 
 fn main() -> ExitCode {
     let mut arguments = std::env::args().skip(1);
     let name = arguments.next().unwrap_or_default();
-    let lines = arguments.next().map_or(Ok(LINES), |lines| lines.parse());
+    let lines = arguments
+        .next()
+        .map_or(Ok(LINE_LIMIT as usize), |lines| lines.parse());
     let log = match (name.as_str(), lines) {
         ("busy", Ok(lines)) => busy_ring(lines),
         ("token", Ok(lines)) => moving_token(lines),

@@ -1,7 +1,7 @@
 //! Logs with lines that are no forms.
 
 use super::rng::Rng;
-use crate::log::LINE_LIMIT;
+use crate::log::LINE_BYTES;
 
 /// A good log with damage: lines changed, or changed copies set before them.
 pub fn damaged(rng: &mut Rng, log: &[u8]) -> Vec<u8> {
@@ -122,13 +122,13 @@ pub fn foreign_words(rng: &mut Rng, lines: usize) -> Vec<u8> {
     log
 }
 
-/// Lines about the limit of 700 bytes and far beyond it, between good ones.
+/// Lines about the limit of bytes and far beyond it, between good ones.
 pub fn long_lines(rng: &mut Rng, lines: usize) -> Vec<u8> {
     let mut log = b"(ring 2)\n".to_vec();
     for _ in 0..lines {
         let length = match rng.below(8) {
-            0..=5 => LINE_LIMIT - 2 + rng.below(5),
-            6 => LINE_LIMIT * rng.below(4),
+            0..=5 => LINE_BYTES - 2 + rng.below(5),
+            6 => LINE_BYTES * rng.below(4),
             _ => rng.below(20_000),
         };
         let filler = rng.pick(b"x 0(");

@@ -1,7 +1,7 @@
 //! Logs at and about the limits of the paper.
 
 use super::{Rng, Writer};
-use crate::log::LINES_LIMIT;
+use crate::log::{LINE_BYTES, LINE_LIMIT};
 use crate::ring;
 
 /// First lines at and about the limits of the paper.
@@ -122,12 +122,12 @@ fn whole_limits() -> Vec<Vec<u8>> {
         longest_start.clone(),
         [&longest_start[..], b"(idle 95)\n(probe)\n(pass 95)\n"].concat(),
         longest_start[..longest_start.len() - 1].to_vec(),
-        listed_start(699),
-        listed_start(700),
-        listed_start(701),
-        listed_start(702),
-        listed_start(1_400),
-        [&listed_start(700)[..], b"(probe)\n"].concat(),
+        listed_start(LINE_BYTES - 1),
+        listed_start(LINE_BYTES),
+        listed_start(LINE_BYTES + 1),
+        listed_start(LINE_BYTES + 2),
+        listed_start(2 * LINE_BYTES),
+        [&listed_start(LINE_BYTES)[..], b"(probe)\n"].concat(),
         [b"(ring 2)\n", &[b'('; 400_000][..]].concat(),
         [b"(ring 2)\n", &[b' '; 70_000][..], b"\n(probe)\n"].concat(),
     ]
@@ -164,7 +164,7 @@ pub fn limit(rng: &mut Rng, index: usize) -> Vec<u8> {
 /// A log that goes on past the greatest number of lines, which are all read and no more.
 pub fn past_lines_limit() -> Vec<u8> {
     let mut log = b"(ring 2)\n".to_vec();
-    log.resize(log.len() + LINES_LIMIT as usize - 3, b'\n');
+    log.resize(log.len() + LINE_LIMIT as usize - 3, b'\n');
     log.extend_from_slice(b"(probe)\n(pass 1)\n(probe)\n(announce)\n");
     log
 }

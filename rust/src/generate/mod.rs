@@ -136,7 +136,7 @@ fn push_list(log: &mut Vec<u8>, word: &str, list: &[usize]) {
 }
 
 fn push_request(log: &mut Vec<u8>, words: &Words, request: Request) {
-    let (word, count) = words[request.kind as usize - 1];
+    let (word, count) = words[request.kind - 1];
     write!(log, "({word}").expect("writing to memory");
     for number in [request.i, request.j].iter().take(count) {
         write!(log, " {number}").expect("writing to memory");
@@ -146,7 +146,7 @@ fn push_request(log: &mut Vec<u8>, words: &Words, request: Request) {
 
 /// Any kind, with numbers that are mostly below `n`.
 fn random_request(rng: &mut Rng, n: usize) -> Request {
-    let kind = 1 + rng.below(6) as u32;
+    let kind = 1 + rng.below(6);
     Request::new(kind, random_number(rng, n), random_number(rng, n))
 }
 

@@ -70,7 +70,7 @@ impl Model for RingModel {
     }
 
     fn allowed(&self, rng: &mut Rng, winding_down: bool) -> Option<Request> {
-        const CLASSES: [u32; 10] = [
+        const CLASSES: [usize; 10] = [
             SEND, SEND, SEND, TAKE, TAKE, TAKE, IDLE, PROBE, PROBE, PROBE,
         ];
         if self.ring.closed {
@@ -89,7 +89,7 @@ impl Model for RingModel {
 }
 
 impl RingModel {
-    fn allowed_of(&self, class: u32, rng: &mut Rng) -> Option<Request> {
+    fn allowed_of(&self, class: usize, rng: &mut Rng) -> Option<Request> {
         let ring = &self.ring;
         let active = |i: usize| ring.active[i];
         match class {
@@ -131,7 +131,7 @@ impl Model for Tree {
     }
 
     fn allowed(&self, rng: &mut Rng, winding_down: bool) -> Option<Request> {
-        const CLASSES: [u32; 12] = [
+        const CLASSES: [usize; 12] = [
             SEND, SEND, SEND, LEAVE, LEAVE, TAKE, TAKE, ACK, ACK, ACK, IDLE, IDLE,
         ];
         if self.closed {
@@ -150,7 +150,7 @@ impl Model for Tree {
     }
 }
 
-fn tree_allowed_of(tree: &Tree, class: u32, rng: &mut Rng) -> Option<Request> {
+fn tree_allowed_of(tree: &Tree, class: usize, rng: &mut Rng) -> Option<Request> {
     let n = tree.n;
     match class {
         SEND if n > 1 => {

@@ -14,7 +14,7 @@ pub fn start(flags: &[u8]) -> Ring {
 }
 
 /// Makes steps that must all be accepted.
-pub fn after(mut ring: Ring, steps: &[(u32, usize, usize)]) -> Ring {
+pub fn after(mut ring: Ring, steps: &[(usize, usize, usize)]) -> Ring {
     for &(kind, i, j) in steps {
         assert_eq!(
             ring.step(Request::new(kind, i, j)),
@@ -27,7 +27,7 @@ pub fn after(mut ring: Ring, steps: &[(u32, usize, usize)]) -> Ring {
 }
 
 /// A refused step leaves the state as it was.
-pub fn assert_refused(ring: &Ring, (kind, i, j): (u32, usize, usize), refusal: Refusal) {
+pub fn assert_refused(ring: &Ring, (kind, i, j): (usize, usize, usize), refusal: Refusal) {
     let mut same = ring.clone();
     assert_eq!(same.step(Request::new(kind, i, j)), Err(refusal));
     assert_eq!(&same, ring);
