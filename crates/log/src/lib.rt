@@ -1,14 +1,14 @@
 // The log program over pieces of a log: nothing here reads or writes, a program does that around `feed` and `finish`.
-use log_first::Stage;
-use log_first::blank_ring;
-use log_first::blank_tree;
-use log_held::Fed;
-use log_held::Log;
-use log_held::answer_held;
-use log_held::holding;
+use log_beginning::Stage;
+use log_beginning::blank_ring;
+use log_beginning::blank_tree;
 use log_lines::hold;
 use log_lines::line_end;
 use log_ring::ring_piece;
+use log_state::Fed;
+use log_state::Log;
+use log_state::answer_held;
+use log_state::holding;
 use log_tree::tree_piece;
 use ring::Ring;
 use tree::Tree;
@@ -20,8 +20,8 @@ ghost use Rattle.ring.specs.View as ringView;
 ghost use Rattle.tree.specs.View as treeView;
 ghost use Rattle.log_rules.specs.Answers.{fresh, onRing, onTree};
 ghost use Rattle.log_rules.specs.Pieces.{NoMore, heldOf};
-ghost use Rattle.log_first.specs.Open.{SoundStage};
-ghost use Rattle.log_held.specs.Feed.{stageOf, Good, Room, HeldRest, FedFrom, Going};
+ghost use Rattle.log_beginning.specs.Open.{SoundStage};
+ghost use Rattle.log_state.specs.Feed.{stageOf, Good, Room, HeldRest, FedFrom, Going};
 
 // Nothing is read.
 pub fn start() -> Log

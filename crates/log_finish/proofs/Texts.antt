@@ -6,10 +6,10 @@ use mathlib.Core.List.{List, [], _++_, append-nil}
 use mathlib.Core.Logic.{_⊎_, inl, inr}
 use mathlib.Core.Path.{_∙_, _≡_, ap, subst, subst⁻¹}
 use native.Mathlib.Omega.{arith}
-use Rattle.log_first.specs.Open.{SoundStage, stageBy}
-use Rattle.log_held.proofs.Held.{held-least}
-use Rattle.log_held.specs.Feed.{Good, stageOf}
-use Rattle.log_held.specs.declared.Log.{Log}
+use Rattle.log_beginning.specs.Open.{SoundStage, stageBy}
+use Rattle.log_state.proofs.Held.{held-least}
+use Rattle.log_state.specs.Feed.{Good, stageOf}
+use Rattle.log_state.specs.declared.Log.{Log}
 use Rattle.log_rules.proofs.Cuts.{rest-cut, rest-done, rest-full}
 use Rattle.log_rules.specs.Lines.{lineLimit}
 use Rattle.log_rules.specs.Output.{restOf}
@@ -18,7 +18,7 @@ use Rattle.log_text.specs.Wrote.{Wrote}
 use Rattle.refusal.specs.declared.Refusal.the-variants.{NotAForm}
 use Rattle.refusal.specs.declared.Verdict.the-variants.{Refused}
 use Rattle.log_finish.specs.Finish.{Finished, cutText}
-use Rattle.log_first.specs.declared.Stage as code
+use Rattle.log_beginning.specs.declared.Stage as code
 use Rattle.log_rules.specs.Answers as rules
 use Rattle.decimal.proofs.Cases as cases
 

@@ -4,8 +4,8 @@ use lib.Dec.{ltb}
 use lib.ListN.{length}
 use mathlib.Core.Bool.{cond}
 use mathlib.Core.List.{List, []}
-use Rattle.log_held.specs.Feed.{stageOf}
-use Rattle.log_held.specs.declared.Log.{Log}
+use Rattle.log_state.specs.Feed.{stageOf}
+use Rattle.log_state.specs.declared.Log.{Log}
 use Rattle.log_rules.specs.Answers.{answerText}
 use Rattle.log_rules.specs.Lines.{lineLimit}
 use Rattle.log_rules.specs.Output.{restOf}

@@ -1,15 +1,15 @@
 // The end of a log: its last line, where byte 10 is missing, and the end line.
+use log_beginning::Stage;
 use log_end::put_ring_end;
 use log_end::put_tree_end;
-use log_first::Stage;
-use log_held::Log;
+use log_state::Log;
 use log_text::put_answer;
 use refusal::Refusal;
 use refusal::Verdict;
 ghost use Prim.Native.Nat.{_≤_};
 ghost use lib.ListN.{length};
 ghost use Rattle.log_text.specs.Wrote.{Wrote};
-ghost use Rattle.log_held.specs.Feed.{Good};
+ghost use Rattle.log_state.specs.Feed.{Good};
 ghost use Rattle.log_finish.specs.Finish.{cutText, Finished};
 
 // The refusal of a last line that is held without its byte 10.

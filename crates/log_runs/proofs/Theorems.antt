@@ -18,7 +18,7 @@ use Rattle.forms.specs.declared.RingLine.{RingLine}
 use Rattle.forms.specs.declared.RingStep.{RingStep}
 use Rattle.forms.specs.declared.TreeLine.{TreeLine}
 use Rattle.laws.proofs.Tests.{both}
-use Rattle.log_first.proofs.Laws.{flags-fit, seen-flags}
+use Rattle.log_beginning.proofs.Laws.{flags-fit, seen-flags}
 use Rattle.log_rules.proofs.Theorems.{lines-say}
 use Rattle.log_rules.specs.Answers.{Stage, Told, answerText, firstTold, fresh, isMove, lineTold, onRing, onTree, ringRequest, ringTable, ringTold, treeRequest, treeTold}
 use Rattle.log_rules.specs.Output.{linesTold}

@@ -11,8 +11,8 @@ use mathlib.Core.Path.{_∙_, _≡_, ap, refl, subst, subst⁻¹, sym}
 use native.Mathlib.Omega.{arith}
 use Rattle.laws.proofs.Tests.{false-true}
 use Rattle.log_finish.specs.Theorems.{Feeds, no-piece, piece}
-use Rattle.log_held.specs.Feed.{Good, decided}
-use Rattle.log_held.specs.declared.Log.{Log}
+use Rattle.log_state.specs.Feed.{Good, decided}
+use Rattle.log_state.specs.declared.Log.{Log}
 use Rattle.watch.specs.Run.{Pumped, Turns, another, isEnd, last, pieceOf, ran-out, textOf}
 use Rattle.watch.specs.Turn.{Answers, Turned, after}
 use Rattle.watch.specs.declared.Step.{Step}

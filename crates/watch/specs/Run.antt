@@ -8,8 +8,8 @@ use mathlib.Core.Bool.{Bool, false, true}
 use mathlib.Core.List.{List, [], _++_, _∷_}
 use mathlib.Core.Path.{_≡_}
 use Rattle.log_finish.specs.Theorems.{Feeds, joined}
-use Rattle.log_held.specs.Feed.{Good, stageOf}
-use Rattle.log_held.specs.declared.Log.{Log}
+use Rattle.log_state.specs.Feed.{Good, stageOf}
+use Rattle.log_state.specs.declared.Log.{Log}
 use Rattle.log_rules.specs.Answers.{fresh}
 use Rattle.log_rules.specs.Output.{outputOf}
 use Rattle.watch.specs.Turn.{Turned}

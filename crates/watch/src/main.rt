@@ -1,9 +1,9 @@
 // Reads a log from standard input in pieces of 64 KiB and writes the answers to standard output, one write for each piece.
-use log_held::Log;
+use log_state::Log;
 ghost use mathlib.Core.Path.{_≡_};
 ghost use Prim.Native.Nat.{_+_, _*_, _≤_};
 ghost use lib.ListN.{length};
-ghost use Rattle.log_held.specs.Feed.{Good};
+ghost use Rattle.log_state.specs.Feed.{Good};
 ghost use Rattle.watch.specs.Turn.{Answered, after, Turned};
 ghost use Rattle.watch.specs.Run.{turnLimit, Pumped, Ran};
 
@@ -23,7 +23,7 @@ fn answer(log: Log, piece: &[u8], got: isize, line: &mut [u8], out: &mut [u8]) -
     let n = io::count(got, piece);
     let f = log::feed(log, &piece[..n], line, out);
     let next = f.log;
-    let decided = log_held::is_decided(next);
+    let decided = log_state::is_decided(next);
     Step {
         log: next,
         count: f.count,

@@ -2,7 +2,7 @@ use borrow.Author.Needs.{needs}
 use mathlib.Core.Path.{_∙_, sym}
 use native.Mathlib.Omega.{arith}
 use Rattle.log_lines.proofs.Ends.{found-line, found-none}
-use Rattle.log_held.proofs.Feeds.{full-fed, part-fed, whole-fed}
+use Rattle.log_state.proofs.Feeds.{full-fed, part-fed, whole-fed}
 use Rattle.log.proofs.feed.Statement.{statement}
 use Rattle.log.proofs.feed.Tie as tie
 

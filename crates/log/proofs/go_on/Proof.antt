@@ -1,10 +1,10 @@
 use borrow.Author.Needs.{needs}
 use mathlib.Core.Path.{ap, subst}
 use native.Mathlib.Omega.{arith}
-use Rattle.log_first.specs.Open.{Begun, SoundStage, stageBy}
-use Rattle.log_held.proofs.Feeds.{over-fed}
+use Rattle.log_beginning.specs.Open.{Begun, SoundStage, stageBy}
+use Rattle.log_state.proofs.Feeds.{over-fed}
 use Rattle.log.proofs.go_on.Statement.{statement}
-use Rattle.log_first.specs.declared.Stage as code
+use Rattle.log_beginning.specs.declared.Stage as code
 use Rattle.log.proofs.go_on.Tie as tie
 
 enum-told : tie.Need-enum-told

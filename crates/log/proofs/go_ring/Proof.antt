@@ -1,6 +1,6 @@
 use borrow.Author.Needs.{needs}
 use native.Mathlib.Omega.{arith}
-use Rattle.log_held.proofs.Feeds.{fed-went}
+use Rattle.log_state.proofs.Feeds.{fed-went}
 use Rattle.log.proofs.go_ring.Statement.{statement}
 use Rattle.log.proofs.go_ring.Tie as tie
 

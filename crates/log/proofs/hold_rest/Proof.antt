@@ -1,6 +1,6 @@
 use borrow.Author.Needs.{needs}
 use native.Mathlib.Omega.{arith}
-use Rattle.log_held.proofs.Feeds.{full-rest, held-rest}
+use Rattle.log_state.proofs.Feeds.{full-rest, held-rest}
 use Rattle.log.proofs.hold_rest.Statement.{statement}
 use Rattle.log.proofs.hold_rest.Tie as tie
 

@@ -3,7 +3,7 @@ use mathlib.Core.List.{[]}
 use mathlib.Core.Path.{ap, refl}
 use native.Mathlib.Omega.{arith}
 use Rattle.decimal.specs.Text.{put}
-use Rattle.log_first.specs.Open.{stageBy}
+use Rattle.log_beginning.specs.Open.{stageBy}
 use Rattle.log_rules.proofs.Cuts.{rest-over}
 use Rattle.log_rules.specs.Pieces.{heldOf}
 use Rattle.log_text.proofs.Texts.{answer-short, wrote-then}
@@ -11,7 +11,7 @@ use Rattle.refusal.specs.declared.Refusal.the-variants.{NotAForm}
 use Rattle.refusal.specs.declared.Verdict.the-variants.{Refused}
 use Rattle.log_finish.proofs.Texts.{finished, fresh-end, run-end, sound-as}
 use Rattle.log_finish.proofs.finish.Statement.{statement}
-use Rattle.log_first.specs.declared.Stage as code
+use Rattle.log_beginning.specs.declared.Stage as code
 use Rattle.log_rules.specs.Answers as rules
 use Rattle.ring.specs.View as ringView
 use Rattle.tree.specs.View as treeView

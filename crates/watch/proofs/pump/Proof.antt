@@ -4,7 +4,7 @@ use lib.ListN.{length}
 use mathlib.Core.List.{List}
 use mathlib.Core.Path.{_≡_, refl}
 use native.Mathlib.Omega.{arith}
-use Rattle.log_held.specs.Feed.{Good}
+use Rattle.log_state.specs.Feed.{Good}
 use Rattle.watch.proofs.Runs.{answered-by, last-turn, no-turns-left, one-more}
 use Rattle.watch.proofs.pump.Statement.{statement}
 use Rattle.watch.specs.Run.{Pumped}

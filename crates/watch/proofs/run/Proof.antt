@@ -3,7 +3,7 @@ use mathlib.Core.Path.{_∙_, refl, sym}
 use native.Mathlib.Omega.{arith}
 use Rattle.laws.proofs.Tests.{false-true}
 use Rattle.log_finish.proofs.Theorems.{cuts-do-not-matter}
-use Rattle.log_held.proofs.Feeds.{start-good}
+use Rattle.log_state.proofs.Feeds.{start-good}
 use Rattle.watch.proofs.Runs.{decided-then}
 use Rattle.watch.proofs.run.Statement.{statement}
 use Rattle.watch.proofs.run.Tie as tie

@@ -1,0 +1,50 @@
+-- What a first line begins.
+use Prim.Native.Nat.{_<_, _≤_, ℕ}
+use lib.ListN.{getD, length}
+use mathlib.Core.List.{List}
+use mathlib.Core.Path.{_≡_}
+use Rattle.log_text.specs.Wrote.{Wrote}
+use Rattle.log_beginning.specs.declared.Opening.{Opening}
+use Rattle.log_rules.specs.Answers as rules
+use Rattle.log_beginning.specs.declared.Stage as code
+use Rattle.log_beginning.specs.declared.Stage.the-variants as stages
+use Rattle.ring.specs.View as ring
+use Rattle.ring.specs.declared.Ring as rings
+use Rattle.tree.specs.declared.Tree as trees
+use Rattle.tree.specs.View as tree
+use Rattle.ring_rules.specs.Soundness as ringSound
+use Rattle.tree_rules.specs.Soundness as treeSound
+
+-- the code's stage as the definitions see it
+abbrev pub stageBy : code.Stage → rings.Ring → ℕ → trees.Tree → rules.Stage
+stageBy stages.Fresh r m t = rules.fresh
+stageBy stages.Ring r m t = rules.onRing (ring.state r) m
+stageBy stages.Tree r m t = rules.onTree (tree.state t)
+stageBy stages.Over r m t = rules.over
+
+-- after k lines the state of the run is sound, and the moves are at most k
+abbrev pub SoundStage : rules.Stage → ℕ → Type 0
+SoundStage rules.fresh k = Unit {0}
+SoundStage (rules.onRing r m) k = ringSound.Sound r × (m ≤ k)
+SoundStage (rules.onTree t) k = treeSound.Sound t
+SoundStage rules.over k = Unit {0}
+
+-- the first line is read
+abbrev pub Begun : rules.Stage → Type 0
+Begun rules.fresh = ⊥
+Begun (rules.onRing r m) = Unit {0}
+Begun (rules.onTree t) = Unit {0}
+Begun rules.over = Unit {0}
+
+-- the opening is what the definitions tell of the first line, and its answer is written
+pub record Begins (x : rules.Told) (o : Opening) (out out′ : List ℕ) : Type 0 where
+  pub stage : stageBy (o .stage) (o .ring) 0 (o .tree) ≡ x .stage
+  pub wrote : Wrote out 0 (x .text) (o .at) out′
+  pub sound : SoundStage (x .stage) 1
+  pub begun : Begun (x .stage)
+  pub short : length (x .text) ≤ 16
+
+-- start flags for 96 nodes
+pub record Flags (flags : List ℕ) : Type 0 where
+  pub places : length flags ≡ 96
+  pub small : (i : ℕ) → i < 96 → getD flags i 0 ≤ 3

@@ -1,0 +1,181 @@
+// A log as far as it is read, and the line that is held of it, answered once it is whole.
+use log_beginning::Opening;
+use log_beginning::Stage;
+use log_beginning::open_run;
+use log_beginning::refuse;
+use log_ring::ring_piece;
+use log_text::put_answer;
+use log_tree::tree_piece;
+use refusal::Refusal;
+use refusal::Verdict;
+use ring::Ring;
+use tree::Tree;
+ghost use mathlib.Core.Path.{_≡_};
+ghost use Prim.Native.Nat.{_+_, _<_};
+ghost use Rattle.ring.specs.View as ringView;
+ghost use Rattle.tree.specs.View as treeView;
+ghost use Rattle.log_rules.specs.Answers.{fresh, onRing, onTree};
+ghost use Rattle.log_beginning.specs.Open.{SoundStage, stageBy};
+ghost use Rattle.log_state.specs.Feed.{stageOf, decided, HeldReady, HeldTold};
+
+// A log as far as it is read: what it has come to, the accepted token moves, the lines answered, and how many bytes are held of the next
+// line in a buffer of 700 (701: it is too long).
+pub struct Log {
+    pub stage: Stage,
+    pub ring: Ring,
+    pub tree: Tree,
+    pub moves: u64,
+    pub lines: u64,
+    pub len: usize,
+}
+
+// The log after a piece, and how many bytes of answers are written.
+pub struct Fed {
+    pub log: Log,
+    pub count: usize,
+}
+
+// The log after its first line.
+fn begun(o: Opening, lines: u64) -> Fed
+    requires { ⌜ lines < 1000000 ⌝ }
+    ensures { λ f. ⌜ (stageOf (f .log) ≡ stageBy (o .stage) (o .ring) 0 (o .tree)) × (f .log .lines ≡ lines + 1) × (f .log .len ≡ 0) × (f .count ≡ o .at) ⌝ }
+{
+    let stage = o.stage;
+    let ring = o.ring;
+    let tree = o.tree;
+    let log = Log {
+        stage,
+        ring,
+        tree,
+        moves: 0,
+        lines: lines + 1,
+        len: 0,
+    };
+    Fed { log, count: o.at }
+}
+
+// The first line, held whole.
+fn held_first(lines: u64, len: usize, line: &[u8], out: &mut [u8]) -> Fed
+    requires { ⌜ HeldReady lines len (now line) (now out) ⌝ }
+    ensures { λ f. ⌜ HeldTold fresh lines len (now (line .entry)) f (now (out .entry)) (now (out .exit)) ⌝ }
+{
+    if 700 < len {
+        return begun(refuse(Refusal::NotAForm, out), lines);
+    }
+    begun(open_run(&line[..len], out), lines)
+}
+
+// A line of a ring's run, held whole: it is a piece by itself.
+fn held_ring(
+    ring: Ring,
+    tree: Tree,
+    moves: u64,
+    lines: u64,
+    len: usize,
+    line: &[u8],
+    out: &mut [u8],
+) -> Fed
+    requires { ⌜ HeldReady lines len (now line) (now out) × SoundStage (onRing (ringView.state ring) moves) lines ⌝ }
+    ensures { λ f. ⌜ HeldTold (onRing (ringView.state ring) moves) lines len (now (line .entry)) f (now (out .entry)) (now (out .exit)) ⌝ }
+{
+    if 700 < len {
+        let at = put_answer(out, 0, lines + 1, Verdict::Refused(Refusal::NotAForm));
+        let log = Log {
+            stage: Stage::Ring,
+            ring,
+            tree,
+            moves,
+            lines: lines + 1,
+            len: 0,
+        };
+        return Fed { log, count: at };
+    }
+    let f = ring_piece(ring, moves, lines, &line[..len], 0, out, 0);
+    let after = f.ring;
+    let log = Log {
+        stage: Stage::Ring,
+        ring: after,
+        tree,
+        moves: f.moves,
+        lines: f.lines,
+        len: 0,
+    };
+    Fed { log, count: f.at }
+}
+
+// The same of a tree's run.
+fn held_tree(ring: Ring, tree: Tree, lines: u64, len: usize, line: &[u8], out: &mut [u8]) -> Fed
+    requires { ⌜ HeldReady lines len (now line) (now out) × SoundStage (onTree (treeView.state tree)) lines ⌝ }
+    ensures { λ f. ⌜ HeldTold (onTree (treeView.state tree)) lines len (now (line .entry)) f (now (out .entry)) (now (out .exit)) ⌝ }
+{
+    if 700 < len {
+        let at = put_answer(out, 0, lines + 1, Verdict::Refused(Refusal::NotAForm));
+        let log = Log {
+            stage: Stage::Tree,
+            ring,
+            tree,
+            moves: 0,
+            lines: lines + 1,
+            len: 0,
+        };
+        return Fed { log, count: at };
+    }
+    let f = tree_piece(tree, lines, &line[..len], 0, out, 0);
+    let after = f.tree;
+    let log = Log {
+        stage: Stage::Tree,
+        ring,
+        tree: after,
+        moves: 0,
+        lines: f.lines,
+        len: 0,
+    };
+    Fed { log, count: f.at }
+}
+
+// The log with `len` bytes held.
+pub fn holding(log: Log, len: usize) -> Log
+    ensures { λ l. ⌜ (stageOf l ≡ stageOf log) × (l .lines ≡ log .lines) × (l .len ≡ len) ⌝ }
+{
+    let mut l = log;
+    l.len = len;
+    l
+}
+
+// The line that is held whole: `len` bytes of the buffer, 701 if it is too long.
+pub fn answer_held(log: Log, len: usize, line: &[u8], out: &mut [u8]) -> Fed
+    requires { ⌜ HeldReady (log .lines) len (now line) (now out) × SoundStage (stageOf log) (log .lines) ⌝ }
+    ensures { λ f. ⌜ HeldTold (stageOf log) (log .lines) len (now (line .entry)) f (now (out .entry)) (now (out .exit)) ⌝ }
+{
+    let stage = log.stage;
+    let ring = log.ring;
+    let tree = log.tree;
+    match stage {
+        Stage::Fresh => held_first(log.lines, len, line, out),
+        Stage::Ring => held_ring(ring, tree, log.moves, log.lines, len, line, out),
+        Stage::Tree => held_tree(ring, tree, log.lines, len, line, out),
+        Stage::Over => {
+            let same = holding(log, 0);
+            Fed {
+                log: same,
+                count: 0,
+            }
+        }
+    }
+}
+
+// Is what is still to be written settled, whatever follows?
+pub fn is_decided(log: Log) -> bool
+    ensures { λ r. ⌜ r ≡ decided log ⌝ }
+{
+    let stage = log.stage;
+    let full = 1000000 <= log.lines;
+    let long = 700 <= log.len;
+    let last = full | (long & (999999 <= log.lines));
+    match stage {
+        Stage::Fresh => full | long,
+        Stage::Ring => last,
+        Stage::Tree => last,
+        Stage::Over => true,
+    }
+}
