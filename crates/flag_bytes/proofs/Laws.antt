@@ -1,9 +1,10 @@
--- One byte more of each walk; flags are what their truths give back. Assumes nothing.
+-- One byte more of each walk; flags are what their truths give back; one narrow number stands for all that are too large. Assumes nothing.
 use Prim.Native.Nat.{_+_, _<_, _≤_, suc, zero, ℕ}
-use borrow.Author.Tests.{leb-true, lt-leb}
+use borrow.Author.Tests.{leb-true, lt-leb, ltb-true}
+use lib.Dec.{ltb}
 use lib.ListN.{drop, drop-of-length-le, getD, length, set, take}
 use lib.Seq.{drop-cons, take-all, take-suc, take-suc-set}
-use mathlib.Core.Bool.{Bool, _&&_, and-assoc, and-false, and-true, false, true}
+use mathlib.Core.Bool.{Bool, _&&_, and-assoc, and-false, and-true, cond, false, true}
 use mathlib.Core.List.{List, [], _++_, _∷_, map}
 use mathlib.Core.Path.{_∙_, _≡_, ap, refl, sym}
 use native.Mathlib.Numerals.{add-one}
@@ -61,3 +62,12 @@ unfolding areFlags
 no-flags [] k h = absurd (omega arith)
 no-flags (b ∷ l) zero h = rw (no-flag b h)
 no-flags (b ∷ l) (suc k) h = rw (no-flags l k h) (and-false (isFlag b))
+
+-- what answers all numbers above `top` alike does not tell a number from the narrow one
+pub narrow-same :
+    {A : Type 0} (f : ℕ → A) (top one m : ℕ) → ((k : ℕ) → top < k → f one ≡ f k) → f (cond (ltb top m) one m) ≡ f m
+narrow-same {A} f top one m h = go (ltb top m) refl
+  where
+    go : (b : Bool) → ltb top m ≡ b → f (cond b one m) ≡ f m
+    go true p = h m (ltb-true top m p)
+    go false p = refl

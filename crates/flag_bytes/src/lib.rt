@@ -1,7 +1,8 @@
-// Truths that are lent as bytes: 1 for true, 0 for false. A byte above 1 is no flag.
+// Truths that are lent as bytes: 1 for true, 0 for false. A byte above 1 is no flag. And numbers that are handed in wide.
 ghost use mathlib.Core.Path.{_≡_};
 ghost use lib.ListN.{length};
 ghost use Rattle.flag_bytes.specs.Flags.{areFlags, flagsOf, byteOf, bytesOf};
+ghost use Rattle.flag_bytes.specs.Narrow.{kindByte, limitWord};
 
 // Is each byte a flag?
 pub fn are_flags(s: &[u8]) -> bool
@@ -69,4 +70,32 @@ pub fn tree_flags(s: [u8; 16]) -> [bool; 16]
     let mut out = [false; 16];
     put_flags(&s, &mut out);
     out
+}
+
+pub fn tree_bytes(s: [bool; 16]) -> [u8; 16]
+    ensures { λ r. ⌜ r ≡ bytesOf s ⌝ }
+{
+    let mut out = [0u8; 16];
+    put_bytes(&s, &mut out);
+    out
+}
+
+// A step's kind in a byte: 0, which is no kind, where it does not fit.
+pub fn kind_byte(kind: usize) -> u8
+    ensures { λ r. ⌜ r ≡ kindByte kind ⌝ }
+{
+    if 255 < kind {
+        return 0;
+    }
+    kind as u8
+}
+
+// A driver's limit: 1,001 for all above 1,000.
+pub fn limit_word(limit: usize) -> u32
+    ensures { λ r. ⌜ r ≡ limitWord limit ⌝ }
+{
+    if 1000 < limit {
+        return 1001;
+    }
+    limit as u32
 }

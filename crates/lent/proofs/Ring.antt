@@ -1,31 +1,46 @@
 -- The equations of the ring's contracts, by what the code found. Assumes nothing.
-use Prim.Native.Nat.{ℕ}
-use mathlib.Core.Bool.{_&&_, false, true}
+use Prim.Native.Nat.{_<_, ℕ}
+use borrow.Author.Tests.{lt-ltb}
+use mathlib.Core.Bool.{Bool, _&&_, false, not, true}
+use mathlib.Core.List.{List, [], _∷_}
+use mathlib.Core.Logic.{inl, inr}
 use mathlib.Core.Path.{_∙_, _≡_, ap, refl, sym}
-use Rattle.flag_bytes.proofs.Laws.{flag-back, flags-back}
+use native.Mathlib.Omega.{arith}
+use Rattle.flag_bytes.proofs.Laws.{flag-back, flags-back, narrow-same}
 use Rattle.flag_bytes.specs.Flags.{areFlags, byteOf, bytesOf, isFlag}
+use Rattle.flag_bytes.specs.Narrow.{kindByte, limitWord}
 use Rattle.laws.proofs.Tests.{both}
 use Rattle.refusal.proofs.Table.{not-both}
-use Rattle.refusal.specs.Table.{codeOf, settle}
+use Rattle.refusal.specs.Table.{_⟶_, codeOf, firstOf, settle}
 use Rattle.refusal.specs.declared.Refusal.{Refusal}
-use Rattle.refusal.specs.declared.Refusal.the-variants.{Unsound}
+use Rattle.refusal.specs.declared.Refusal.the-variants.{Closed, MoveLimit, Unsound}
 use Rattle.refusal.specs.declared.Verdict.{Verdict}
 use Rattle.refusal.specs.declared.Verdict.the-variants.{Accepted, Refused}
 use Rattle.ring_rules.proofs.Fields.{drive-keeps, nodes-kept, unmoved}
+use Rattle.ring_rules.proofs.Theorems.{fields-unread}
 use Rattle.ring_rules.specs.Answers.{Answer, stepOf}
-use Rattle.ring_rules.specs.Driver.{Driven, driveOf, reasonNumber, reasonVerdict}
+use Rattle.ring_rules.specs.Driver.{Driven, driveBy, driveOf, moveLimit, reasonNumber, reasonVerdict}
+use Rattle.ring_rules.specs.Soundness.{soundTest}
+use Rattle.ring_rules.specs.Start.{startOf}
 use Rattle.ring_rules.specs.State.{State}
 use Rattle.ring_rules.specs.declared.Reason.{Reason}
 use Rattle.ring_rules.specs.declared.Reason.the-variants.{Conclusive, Spent, Stopped, Waiting}
-use Rattle.tree_text.specs.Write.{told}
-use Rattle.lent.specs.Ring.{DrivenTo, Lent, SteppedTo, driveReason, flagsTest, lent, lentOf, stateOf, stepVerdict}
+use Rattle.lent.specs.Ring.{DrivenTo, Lent, StartedTo, SteppedTo, driveReason, flagsTest, lent, lentOf, stateOf, stepVerdict}
+
+-- ---- a start
+
+pub started :
+    {nodes number : ℕ} {flags : List ℕ} {before after : Lent} (a : Answer) → a ≡ startOf nodes flags → number ≡ codeOf (a .verdict)
+    → after ≡ settle (a .verdict) (lentOf (a .state)) before → StartedTo nodes flags number before after
+started a e t h = record { told = rw (← e) t; fields = rw (← e) h }
 
 -- ---- a step
 
--- the fields of l with the columns and the token of r
-abbrev pub steppedOver : Lent → State → Lent
-steppedOver l r =
-    lent (l .n) (bytesOf (r .active)) (r .color) (r .sent) (r .received) (r .pending) (r .pos) (r .q) (byteOf (r .black)) (byteOf (r .closed))
+-- a kind that does not fit a byte is unknown, as 0 is
+pub kind-same : (r : State) (b kind i j : ℕ) → b ≡ kindByte kind → stepOf r b i j ≡ stepOf r kind i j
+kind-same r b kind i j e =
+    ap (λ (k : ℕ). stepOf r k i j) e
+    ∙ narrow-same (λ (k : ℕ). stepOf r k i j) 255 0 kind (λ k h. fields-unread .other-kinds r 0 k (inl refl) (inr (omega arith)) i i j j)
 
 by-step :
     (l : Lent) (kind i j number : ℕ) (after : Lent) (w : Verdict) → stepVerdict l kind i j ≡ w → number ≡ codeOf w
@@ -48,19 +63,36 @@ step-refused {l} {kind} {i} {j} {number} r a {e} p s f v t =
     (t ∙ ap codeOf v)
     refl
 
+-- the fields `s` in which the next state lies, but for the number of nodes, which no step changes
+abbrev pub withNodes : ℕ → Lent → Lent
+withNodes n s = lent n (s .active) (s .color) (s .sent) (s .received) (s .pending) (s .pos) (s .q) (s .black) (s .closed)
+
 pub step-accepted :
-    {l after : Lent} {kind i j : ℕ} (r : State) (a : Answer) → r ≡ stateOf l → a ≡ stepOf r kind i j
-    → flagsTest l ≡ true → a .verdict ≡ Accepted → after ≡ steppedOver l (a .state) → SteppedTo l kind i j 0 after
-step-accepted {l} {after} {kind} {i} {j} r a p s f v h =
-    let e : a ≡ stepOf (stateOf l) kind i j = s ∙ ap (λ (x : State). stepOf x kind i j) p in
+    {l : Lent} {kind i j : ℕ} (r : State) (a : Answer) (s : Lent) → r ≡ stateOf l → a ≡ stepOf r kind i j
+    → flagsTest l ≡ true → a .verdict ≡ Accepted → s ≡ lentOf (a .state) → SteppedTo l kind i j 0 (withNodes (l .n) s)
+step-accepted {l} {kind} {i} {j} r a s p q f v h =
+    let e : a ≡ stepOf (stateOf l) kind i j = q ∙ ap (λ (x : State). stepOf x kind i j) p in
     let n : l .n ≡ a .state .n = sym (ap (λ (x : Answer). x .state .n) e ∙ nodes-kept (stateOf l) kind i j) in
-    by-step l kind i j 0 after Accepted
+    by-step l kind i j 0 (withNodes (l .n) s) Accepted
     (rw (f, ← e) v)
     refl
-    (h ∙ (λ x. lent (n x) (bytesOf (a .state .active)) (a .state .color) (a .state .sent) (a .state .received) (a .state .pending)
-    (a .state .pos) (a .state .q) (byteOf (a .state .black)) (byteOf (a .state .closed))) ∙ ap (λ (x : Answer). lentOf (x .state)) e)
+    ((λ x. withNodes (n x) (h x)) ∙ ap (λ (x : Answer). lentOf (x .state)) e)
 
 -- ---- the driver
+
+-- all limits above 1,000 are answered alike
+pub limit-same : (r : State) (m limit : ℕ) → m ≡ limitWord limit → driveOf r m ≡ driveOf r limit
+unfolding driveOf
+limit-same r m limit e = ap (driveOf r) e ∙ narrow-same (driveOf r) moveLimit 1001 limit above
+  where
+    stops : (a b : Bool) (k : ℕ) → driveBy (firstOf ((a ⟶ Unsound) ∷ (b ⟶ Closed) ∷ (true ⟶ MoveLimit) ∷ [])) 1001 r
+        ≡ driveBy (firstOf ((a ⟶ Unsound) ∷ (b ⟶ Closed) ∷ (true ⟶ MoveLimit) ∷ [])) k r
+    stops true b k = refl
+    stops false true k = refl
+    stops false false k = refl
+
+    above : (k : ℕ) → moveLimit < k → driveOf r 1001 ≡ driveOf r k
+    above k h = rw (lt-ltb moveLimit k h) (stops (not (soundTest r)) (r .closed) k)
 
 -- the fields of l with the colors and the token of r
 abbrev pub drivenOver : Lent → State → Lent

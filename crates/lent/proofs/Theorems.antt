@@ -13,8 +13,10 @@ use Rattle.ring_rules.specs.Driver.{reasonNumber, reasonVerdict}
 use Rattle.ring_rules.specs.declared.Reason.{Reason}
 use Rattle.ring_rules.specs.declared.Reason.the-variants.{Conclusive, Spent, Stopped, Waiting}
 use Rattle.tree_text.specs.Read.{readOf}
+use Rattle.ring_rules.specs.Start as ring
+use Rattle.tree_rules.specs.Start as tree
 use Rattle.lent.specs.Ring.{Lent, driveReason, driveVerdict, flagsTest, stepVerdict}
-use Rattle.lent.specs.Tree.{LentTree, treeFlagsTest, writeVerdict}
+use Rattle.lent.specs.Tree.{LentTree, treeFlagsTest, treeStepVerdict, writeVerdict}
 use Rattle.lent.specs.Theorems.{BytesJudged, NoFlag, NoTreeFlag, RefusalsKeep, inActive, inBlack, inClosed}
 
 -- ---- a refusal keeps
@@ -32,12 +34,15 @@ not-stopped (Stopped e) h p = not-both p refl
 pub refusals-keep : RefusalsKeep
 refusals-keep =
     record {
+      start = λ {nodes} {number} {flags} s h. s .fields ∙ kept (ring.startOf nodes flags .verdict) _ _ (λ p. h (s .told ∙ ap codeOf p));
       step = λ {l} {after} {kind} {i} {j} s h. s .fields ∙ kept (stepVerdict l kind i j) _ _ (λ p. h (s .told ∙ ap codeOf p));
       drive = λ {l} {after} {limit} s h.
           let v = not-stopped (driveReason l limit) (rw (← s .told) h) in (
             s .made ∙ kept (driveVerdict l limit) _ _ v,
             s .fields ∙ kept (driveVerdict l limit) _ _ v,
           );
+      tree-start = λ {nodes} {at} s h. s .fields ∙ kept (tree.startOf nodes at .verdict) _ _ (λ p. h (s .told ∙ ap codeOf p));
+      tree-step = λ {l} {after} {kind} {i} {j} s h. s .fields ∙ kept (treeStepVerdict l kind i j) _ _ (λ p. h (s .told ∙ ap codeOf p));
       write = λ {l} {buf} w h.
           let v : writeVerdict l buf ≡ Accepted → ⊥ = λ p. h (w .told ∙ ap codeOf p) in (
             w .long ∙ kept (writeVerdict l buf) _ _ v,
@@ -72,5 +77,7 @@ bytes-judged =
       step = λ n s. rw (flags-fail n) at (s .told);
       sound = λ n. rw (flags-fail n);
       drive = λ n s. rw (flags-fail n) at (s .told);
+      tree-step = λ n s. rw (tree-flags-fail n) at (s .told);
+      tree-sound = λ n. rw (tree-flags-fail n);
       write = λ n w. rw (tree-flags-fail n) at (w .told);
     }

@@ -13,6 +13,7 @@ use Rattle.refusal.specs.declared.Verdict.the-variants.{Refused}
 use Rattle.ring_rules.specs.Answers.{stepOf}
 use Rattle.ring_rules.specs.Driver.{driveOf, reasonNumber, reasonVerdict}
 use Rattle.ring_rules.specs.Soundness.{soundTest}
+use Rattle.ring_rules.specs.Start.{startOf}
 use Rattle.ring_rules.specs.State.{State}
 use Rattle.ring_rules.specs.declared.Reason.{Reason}
 use Rattle.ring_rules.specs.declared.Reason.the-variants.{Stopped}
@@ -79,6 +80,19 @@ lentOf r =
       black = byteOf (r .black);
       closed = byteOf (r .closed);
     }
+
+-- ---- a start: the number of its answer, and the fields afterwards
+
+abbrev pub startNumber : ℕ → List ℕ → ℕ
+startNumber nodes flags = codeOf (startOf nodes flags .verdict)
+
+-- those of the first state; where the start is refused, `same`, which were lent
+abbrev pub startFields : ℕ → List ℕ → Lent → Lent
+startFields nodes flags same = settle (startOf nodes flags .verdict) (lentOf (startOf nodes flags .state)) same
+
+pub record StartedTo (nodes : ℕ) (flags : List ℕ) (number : ℕ) (before after : Lent) : Type 0 where
+  pub told : number ≡ startNumber nodes flags
+  pub fields : after ≡ startFields nodes flags before
 
 -- ---- soundness: 1 where the ring is sound, else 0
 

@@ -3,17 +3,24 @@ use Prim.Native.Nat.{_<_, ℕ}
 use lib.ListN.{getD}
 use mathlib.Core.List.{List}
 use mathlib.Core.Path.{_≡_}
-use Rattle.lent.specs.Ring.{DrivenTo, Lent, SteppedTo, soundNumber}
-use Rattle.lent.specs.Tree.{LentTree, ReadAs, WrittenAs}
+use Rattle.lent.specs.Ring.{DrivenTo, Lent, StartedTo, SteppedTo, soundNumber}
+use Rattle.lent.specs.Tree.{LentTree, ReadAs, TreeStartedTo, TreeSteppedTo, WrittenAs, treeSoundNumber}
 
 -- "A refusal gives its number and the state handed in; no byte of a lent buffer differs": each number but 0, of the driver each below 100,
 -- is a refusal's, and then every lent field is as it was
 pub record RefusalsKeep : Type 0 where
+  pub start :
+      {nodes number : ℕ} {flags : List ℕ} {before after : Lent} → StartedTo nodes flags number before after → (number ≡ 0 → ⊥)
+      → after ≡ before
   pub step :
       {l after : Lent} {kind i j number : ℕ} → SteppedTo l kind i j number after → (number ≡ 0 → ⊥) → after ≡ l
   pub drive :
       {l after : Lent} {limit number moves moves′ : ℕ} → DrivenTo l limit number moves moves′ after → number < 100
       → (moves′ ≡ moves) × (after ≡ l)
+  pub tree-start :
+      {nodes at number : ℕ} {before after : LentTree} → TreeStartedTo nodes at number before after → (number ≡ 0 → ⊥) → after ≡ before
+  pub tree-step :
+      {l after : LentTree} {kind i j number : ℕ} → TreeSteppedTo l kind i j number after → (number ≡ 0 → ⊥) → after ≡ l
   pub write :
       {l : LentTree} {buf buf′ : List ℕ} {number length length′ : ℕ} → WrittenAs l buf number length length′ buf′ → (number ≡ 0 → ⊥)
       → (length′ ≡ length) × (buf′ ≡ buf)
@@ -36,6 +43,8 @@ pub record BytesJudged : Type 0 where
   pub step : {l after : Lent} {kind i j number : ℕ} → NoFlag l → SteppedTo l kind i j number after → number ≡ 3
   pub sound : {l : Lent} → NoFlag l → soundNumber l ≡ 0
   pub drive : {l after : Lent} {limit number moves moves′ : ℕ} → NoFlag l → DrivenTo l limit number moves moves′ after → number ≡ 3
+  pub tree-step : {l after : LentTree} {kind i j number : ℕ} → NoTreeFlag l → TreeSteppedTo l kind i j number after → number ≡ 3
+  pub tree-sound : {l : LentTree} → NoTreeFlag l → treeSoundNumber l ≡ 0
   pub write :
       {l : LentTree} {buf buf′ : List ℕ} {number length length′ : ℕ} → NoTreeFlag l → WrittenAs l buf number length length′ buf′
       → number ≡ 3

@@ -1,15 +1,18 @@
--- A tree that is lent field by field, truths as bytes as in Ring.antt; its text written and read.
+-- A tree that is lent field by field, truths as bytes as in Ring.antt: started, stepped; its text written and read.
 use Prim.Native.Nat.{ℕ}
 use lib.ListN.{length}
 use mathlib.Core.Bool.{Bool, _&&_, cond}
 use mathlib.Core.List.{List}
 use mathlib.Core.Path.{_≡_}
 use Rattle.decimal.specs.Text.{put}
-use Rattle.flag_bytes.specs.Flags.{areFlags, flagOf, flagsOf, isFlag}
+use Rattle.flag_bytes.specs.Flags.{areFlags, byteOf, bytesOf, flagOf, flagsOf, isFlag}
 use Rattle.refusal.specs.Table.{codeOf, settle}
 use Rattle.refusal.specs.declared.Refusal.the-variants.{Unsound}
 use Rattle.refusal.specs.declared.Verdict.{Verdict}
 use Rattle.refusal.specs.declared.Verdict.the-variants.{Refused}
+use Rattle.tree_rules.specs.Answers.{stepOf}
+use Rattle.tree_rules.specs.Soundness.{soundTest}
+use Rattle.tree_rules.specs.Start.{startOf}
 use Rattle.tree_rules.specs.State.{State}
 use Rattle.tree_text.specs.Read.{readOf}
 use Rattle.tree_text.specs.Write.{stateText}
@@ -58,6 +61,54 @@ treeOf l =
       sends = l .sends;
       closed = flagOf (l .closed);
     }
+
+-- the fields in which a tree lies
+abbrev pub lentTreeOf : State → LentTree
+lentTreeOf t =
+    record {
+      n = t .n;
+      root = t .root;
+      active = bytesOf (t .active);
+      engager = t .engager;
+      unacked = t .unacked;
+      transit = t .transit;
+      acks = t .acks;
+      sends = t .sends;
+      closed = byteOf (t .closed);
+    }
+
+-- ---- a start with the root `at`: the number of its answer, and the fields afterwards
+
+abbrev pub treeStartNumber : ℕ → ℕ → ℕ
+treeStartNumber nodes at = codeOf (startOf nodes at .verdict)
+
+-- those of the first state; where the start is refused, `same`, which were lent
+abbrev pub treeStartFields : ℕ → ℕ → LentTree → LentTree
+treeStartFields nodes at same = settle (startOf nodes at .verdict) (lentTreeOf (startOf nodes at .state)) same
+
+pub record TreeStartedTo (nodes at number : ℕ) (before after : LentTree) : Type 0 where
+  pub told : number ≡ treeStartNumber nodes at
+  pub fields : after ≡ treeStartFields nodes at before
+
+-- ---- soundness: 1 where the tree is sound, else 0
+
+abbrev pub treeSoundNumber : LentTree → ℕ
+treeSoundNumber l = byteOf (treeFlagsTest l && soundTest (treeOf l))
+
+-- ---- a step: the number of its answer, and the fields afterwards
+
+abbrev pub treeStepVerdict : LentTree → ℕ → ℕ → ℕ → Verdict
+treeStepVerdict l kind i j = cond (treeFlagsTest l) (stepOf (treeOf l) kind i j .verdict) (Refused Unsound)
+
+abbrev pub treeStepNumber : LentTree → ℕ → ℕ → ℕ → ℕ
+treeStepNumber l kind i j = codeOf (treeStepVerdict l kind i j)
+
+abbrev pub treeStepFields : LentTree → ℕ → ℕ → ℕ → LentTree
+treeStepFields l kind i j = settle (treeStepVerdict l kind i j) (lentTreeOf (stepOf (treeOf l) kind i j .state)) l
+
+pub record TreeSteppedTo (l : LentTree) (kind i j number : ℕ) (after : LentTree) : Type 0 where
+  pub told : number ≡ treeStepNumber l kind i j
+  pub fields : after ≡ treeStepFields l kind i j
 
 -- ---- the text of a tree written: the number of the answer, the length, and the buffer afterwards
 

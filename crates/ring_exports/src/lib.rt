@@ -7,7 +7,7 @@ use ring_rules::Reason;
 ghost use mathlib.Core.Path.{_≡_};
 ghost use mathlib.Core.Bool.{_&&_};
 ghost use Rattle.flag_bytes.specs.Flags.{areFlags, isFlag};
-ghost use Rattle.lent.specs.Ring.{lent, stateOf, soundNumber, SteppedTo, DrivenTo};
+ghost use Rattle.lent.specs.Ring.{lent, lentOf, stateOf, soundNumber, StartedTo, SteppedTo, DrivenTo};
 ghost use Rattle.ring.specs.View.{state};
 ghost use Rattle.ring_rules.specs.Driver.{reasonVerdict};
 
@@ -49,6 +49,80 @@ fn gathered(
     }
 }
 
+// The ring put into the lent fields, all but the number of nodes.
+fn scatter(
+    ring: Ring,
+    active: &mut [u8; 96],
+    color: &mut [u8; 12],
+    sent: &mut [u32; 96],
+    received: &mut [u32; 96],
+    pending: &mut [u32; 96],
+    pos: &mut usize,
+    q: &mut i64,
+    black: &mut u8,
+    closed: &mut u8,
+)
+    ensures { λ _. ⌜ lent (ring .n) (now (active .exit)) (now (color .exit)) (now (sent .exit)) (now (received .exit)) (now (pending .exit)) (now (pos .exit)) (now (q .exit)) (now (black .exit)) (now (closed .exit)) ≡ lentOf (state ring) ⌝ }
+{
+    let active_now = ring.active;
+    *active = flag_bytes::ring_bytes(active_now);
+    let color_now = ring.color;
+    *color = color_now;
+    let sent_now = ring.sent;
+    *sent = sent_now;
+    let received_now = ring.received;
+    *received = received_now;
+    let pending_now = ring.pending;
+    *pending = pending_now;
+    *pos = ring.pos;
+    let q_now = ring.q;
+    *q = q_now;
+    *black = flag_bytes::byte(ring.black);
+    *closed = flag_bytes::byte(ring.closed);
+}
+
+// A start: the number of its answer, 0 where it is accepted, and then the first state in the lent fields, which are not read.
+#[no_mangle]
+pub extern "C" fn muzserlik_ring_start_fields(
+    nodes: usize,
+    flags: &[u8],
+    n: &mut usize,
+    active: &mut [u8; 96],
+    color: &mut [u8; 12],
+    sent: &mut [u32; 96],
+    received: &mut [u32; 96],
+    pending: &mut [u32; 96],
+    pos: &mut usize,
+    q: &mut i64,
+    black: &mut u8,
+    closed: &mut u8,
+) -> u8
+    ensures { λ r. ⌜ StartedTo nodes (now (flags .entry)) r
+        (lent (now (n .entry)) (now (active .entry)) (now (color .entry)) (now (sent .entry)) (now (received .entry)) (now (pending .entry)) (now (pos .entry)) (now (q .entry)) (now (black .entry)) (now (closed .entry)))
+        (lent (now (n .exit)) (now (active .exit)) (now (color .exit)) (now (sent .exit)) (now (received .exit)) (now (pending .exit)) (now (pos .exit)) (now (q .exit)) (now (black .exit)) (now (closed .exit))) ⌝ }
+{
+    let s = Ring::start(nodes, flags);
+    let verdict = s.verdict;
+    let Verdict::Accepted = verdict else {
+        return refusal::code(verdict);
+    };
+    let next = s.ring;
+    *n = next.n;
+    scatter(
+        next,
+        active,
+        color,
+        sent,
+        received,
+        pending,
+        pos,
+        q,
+        black,
+        closed,
+    );
+    0
+}
+
 // A step in place: the number of its answer, 0 where it is accepted.
 #[no_mangle]
 pub extern "C" fn muzserlik_ring_step_fields(
@@ -62,7 +136,7 @@ pub extern "C" fn muzserlik_ring_step_fields(
     q: &mut i64,
     black: &mut u8,
     closed: &mut u8,
-    kind: u8,
+    kind: usize,
     i: usize,
     j: usize,
 ) -> u8
@@ -72,7 +146,7 @@ pub extern "C" fn muzserlik_ring_step_fields(
     if !are_flags(*active, *black, *closed) {
         return refusal::number(Refusal::Unsound);
     }
-    let s = gathered(
+    let ring = gathered(
         n,
         *active,
         *color,
@@ -83,27 +157,25 @@ pub extern "C" fn muzserlik_ring_step_fields(
         *q,
         *black,
         *closed,
-    ).step(kind, i, j);
+    );
+    let s = ring.step(flag_bytes::kind_byte(kind), i, j);
     let verdict = s.verdict;
     let Verdict::Accepted = verdict else {
         return refusal::code(verdict);
     };
     let next = s.ring;
-    let active_now = next.active;
-    *active = flag_bytes::ring_bytes(active_now);
-    let color_now = next.color;
-    *color = color_now;
-    let sent_now = next.sent;
-    *sent = sent_now;
-    let received_now = next.received;
-    *received = received_now;
-    let pending_now = next.pending;
-    *pending = pending_now;
-    *pos = next.pos;
-    let q_now = next.q;
-    *q = q_now;
-    *black = flag_bytes::byte(next.black);
-    *closed = flag_bytes::byte(next.closed);
+    scatter(
+        next,
+        active,
+        color,
+        sent,
+        received,
+        pending,
+        pos,
+        q,
+        black,
+        closed,
+    );
     0
 }
 
@@ -163,7 +235,7 @@ pub extern "C" fn muzserlik_ring_drive_fields(
     q: &mut i64,
     black: &mut u8,
     closed: u8,
-    limit: u32,
+    limit: usize,
     moves: &mut u32,
 ) -> u8
     ensures { λ r. ⌜ DrivenTo (lent n (now (active .entry)) (now (color .entry)) (now (sent .entry)) (now (received .entry)) (now (pending .entry)) (now (pos .entry)) (now (q .entry)) (now (black .entry)) closed) limit r (now (moves .entry)) (now (moves .exit))
@@ -184,7 +256,7 @@ pub extern "C" fn muzserlik_ring_drive_fields(
         *black,
         closed,
     );
-    let d = ring.drive(limit);
+    let d = ring.drive(flag_bytes::limit_word(limit));
     let reason = d.reason;
     let verdict = reason_verdict(reason);
     let Verdict::Accepted = verdict else {

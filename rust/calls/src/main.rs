@@ -185,7 +185,7 @@ fn same_drive(seed: u64, ring: &LentRing, limit: usize, random: &mut Rng) {
     };
     let mut theirs = ring.clone();
     let mut moves = noise;
-    let told = proved::drive(&mut theirs, limit as u32, &mut moves);
+    let told = proved::drive(&mut theirs, limit as usize, &mut moves);
     if (told, moves, &theirs) != (expected.0, expected.1, &expected.2) {
         fail(
             seed,

@@ -5,6 +5,22 @@ use crate::lent::{LentRing, LentTree};
 use second::request::Request;
 
 extern "C" {
+    fn muzserlik_ring_start_fields(
+        nodes: usize,
+        flags: *const u8,
+        length: usize,
+        n: *mut usize,
+        active: *mut u8,
+        color: *mut u8,
+        sent: *mut u32,
+        received: *mut u32,
+        pending: *mut u32,
+        pos: *mut usize,
+        q: *mut i64,
+        black: *mut u8,
+        closed: *mut u8,
+    ) -> u8;
+
     fn muzserlik_ring_step_fields(
         n: usize,
         active: *mut u8,
@@ -16,7 +32,7 @@ extern "C" {
         q: *mut i64,
         black: *mut u8,
         closed: *mut u8,
-        kind: u8,
+        kind: usize,
         i: usize,
         j: usize,
     ) -> u8;
@@ -45,8 +61,49 @@ extern "C" {
         q: *mut i64,
         black: *mut u8,
         closed: u8,
-        limit: u32,
+        limit: usize,
         moves: *mut u32,
+    ) -> u8;
+
+    fn muzserlik_tree_start_fields(
+        nodes: usize,
+        at: usize,
+        n: *mut usize,
+        root: *mut usize,
+        active: *mut u8,
+        engager: *mut u8,
+        unacked: *mut u32,
+        transit: *mut u32,
+        acks: *mut u32,
+        sends: *mut u32,
+        closed: *mut u8,
+    ) -> u8;
+
+    fn muzserlik_tree_step_fields(
+        n: usize,
+        root: usize,
+        active: *mut u8,
+        engager: *mut u8,
+        unacked: *mut u32,
+        transit: *mut u32,
+        acks: *mut u32,
+        sends: *mut u32,
+        closed: *mut u8,
+        kind: usize,
+        i: usize,
+        j: usize,
+    ) -> u8;
+
+    fn muzserlik_tree_is_sound_fields(
+        n: usize,
+        root: usize,
+        active: *const u8,
+        engager: *const u8,
+        unacked: *const u32,
+        transit: *const u32,
+        acks: *const u32,
+        sends: u32,
+        closed: u8,
     ) -> u8;
 
     fn muzserlik_tree_write_fields(
@@ -73,10 +130,30 @@ extern "C" {
     ) -> u8;
 }
 
+/// The number of a start's answer, 0 where it is accepted; the fields, which are not read, are then those of the first state.
+pub fn ring_start(nodes: usize, flags: &mut [u8], ring: &mut LentRing) -> u8 {
+    // The arrays are as long as the proved function's own, and each is lent once; so in every call below.
+    unsafe {
+        muzserlik_ring_start_fields(
+            nodes,
+            flags.as_mut_ptr(),
+            flags.len(),
+            &mut ring.n,
+            ring.active.as_mut_ptr(),
+            ring.color.as_mut_ptr(),
+            ring.sent.as_mut_ptr(),
+            ring.received.as_mut_ptr(),
+            ring.pending.as_mut_ptr(),
+            &mut ring.pos,
+            &mut ring.q,
+            &mut ring.black,
+            &mut ring.closed,
+        )
+    }
+}
+
 /// The number of a step's answer, 0 where it is accepted; the fields are then those of the next state.
 pub fn step(ring: &mut LentRing, request: Request) -> u8 {
-    let kind = u8::try_from(request.kind).expect("a kind of one byte");
-    // The arrays are as long as the proved function's own, and each is lent once.
     unsafe {
         muzserlik_ring_step_fields(
             ring.n,
@@ -89,7 +166,7 @@ pub fn step(ring: &mut LentRing, request: Request) -> u8 {
             &mut ring.q,
             &mut ring.black,
             &mut ring.closed,
-            kind,
+            request.kind as usize,
             request.i,
             request.j,
         )
@@ -115,7 +192,7 @@ pub fn is_sound(ring: &mut LentRing) -> u8 {
 }
 
 /// The number of the driver's reason (100 conclusive, 101 waiting, 102 spent, else a refusal); `moves` is then how many it made.
-pub fn drive(ring: &mut LentRing, limit: u32, moves: &mut u32) -> u8 {
+pub fn drive(ring: &mut LentRing, limit: usize, moves: &mut u32) -> u8 {
     unsafe {
         muzserlik_ring_drive_fields(
             ring.n,
@@ -130,6 +207,62 @@ pub fn drive(ring: &mut LentRing, limit: u32, moves: &mut u32) -> u8 {
             ring.closed,
             limit,
             moves,
+        )
+    }
+}
+
+/// The number of a start's answer, 0 where it is accepted; the fields, which are not read, are then those of the first state.
+pub fn tree_start(nodes: usize, at: usize, tree: &mut LentTree) -> u8 {
+    unsafe {
+        muzserlik_tree_start_fields(
+            nodes,
+            at,
+            &mut tree.n,
+            &mut tree.root,
+            tree.active.as_mut_ptr(),
+            tree.engager.as_mut_ptr(),
+            tree.unacked.as_mut_ptr(),
+            tree.transit.as_mut_ptr(),
+            tree.acks.as_mut_ptr(),
+            &mut tree.sends,
+            &mut tree.closed,
+        )
+    }
+}
+
+/// The number of a step's answer, 0 where it is accepted; the fields are then those of the next state.
+pub fn tree_step(tree: &mut LentTree, request: Request) -> u8 {
+    unsafe {
+        muzserlik_tree_step_fields(
+            tree.n,
+            tree.root,
+            tree.active.as_mut_ptr(),
+            tree.engager.as_mut_ptr(),
+            tree.unacked.as_mut_ptr(),
+            tree.transit.as_mut_ptr(),
+            tree.acks.as_mut_ptr(),
+            &mut tree.sends,
+            &mut tree.closed,
+            request.kind as usize,
+            request.i,
+            request.j,
+        )
+    }
+}
+
+/// 1 where the tree is sound, else 0.
+pub fn tree_is_sound(tree: &mut LentTree) -> u8 {
+    unsafe {
+        muzserlik_tree_is_sound_fields(
+            tree.n,
+            tree.root,
+            tree.active.as_mut_ptr(),
+            tree.engager.as_mut_ptr(),
+            tree.unacked.as_mut_ptr(),
+            tree.transit.as_mut_ptr(),
+            tree.acks.as_mut_ptr(),
+            tree.sends,
+            tree.closed,
         )
     }
 }

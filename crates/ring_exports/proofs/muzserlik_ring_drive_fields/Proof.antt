@@ -6,7 +6,7 @@ use mir.Val.{SFits}
 use Rattle.laws.proofs.Tests.{told-false, told-true}
 use Rattle.ring.specs.View.{driven, state}
 use Rattle.lent.specs.Ring.{flagsTest}
-use Rattle.lent.proofs.Ring.{drive-accepted, drive-refused, drive-unflagged}
+use Rattle.lent.proofs.Ring.{drive-accepted, drive-refused, drive-unflagged, limit-same}
 use Rattle.ring_exports.proofs.muzserlik_ring_drive_fields.Statement.{statement}
 use Rattle.ring_exports.proofs.muzserlik_ring_drive_fields.Tie as tie
 
@@ -22,6 +22,9 @@ returns c = drive-unflagged (told-false (c .before .before .are-flags .ensures) 
 
 gathered-requires : tie.Need-gathered-requires
 gathered-requires c κs = tt
+
+limit-word-requires : tie.Need-limit-word-requires
+limit-word-requires c κs = tt
 
 drive-requires : tie.Need-drive-requires
 drive-requires c κs = tt
@@ -43,12 +46,14 @@ unfolding flagsTest
 returns-2 c =
     let at-verdict = c .before .before .before in
     let at-drive = at-verdict .before in
-    let at-if1 = at-drive .before .before .before .before .before .before .before .before .before in
+    let at-limit = at-drive .before in
+    let at-gathered = at-limit .before in
+    let at-if1 = at-gathered .before .before .before .before .before .before .before .before in
     let start = at-if1 .before .before .before .before in
     let f : SFits w64 (start .args .q .now) = search needs in
-    drive-refused (state (at-drive .before .gathered .result)) (driven (at-drive .drive .result)) (at-verdict .reason-verdict .result)
-    (at-drive .before .gathered .ensures ∙ rw (toZ-ofZ f))
-    (at-drive .drive .ensures)
+    drive-refused (state (at-gathered .gathered .result)) (driven (at-drive .drive .result)) (at-verdict .reason-verdict .result)
+    (at-gathered .gathered .ensures ∙ rw (toZ-ofZ f))
+    (at-drive .drive .ensures ∙ limit-same _ _ _ (at-limit .limit-word .ensures))
     (told-true (at-if1 .before .are-flags .ensures) (at-if1 .if1 .left))
     (at-verdict .reason-verdict .ensures)
     (c .before .enum-told2 .given .1)
@@ -67,13 +72,15 @@ returns-3 c =
     let at-accepted = c .before .before .before .before .before in
     let at-verdict = at-accepted .before .before in
     let at-drive = at-verdict .before in
-    let at-if1 = at-drive .before .before .before .before .before .before .before .before .before in
+    let at-limit = at-drive .before in
+    let at-gathered = at-limit .before in
+    let at-if1 = at-gathered .before .before .before .before .before .before .before .before in
     let start = at-if1 .before .before .before .before in
     let f : SFits w64 (start .args .q .now) = search needs in
     let g : SFits w64 (at-drive .drive .result .ring .q) = sfits-of (c .before .before .struct-told .given .1 .1 .1 .1 .1 .1 .1 .0 .1) in
-    drive-accepted (state (at-drive .before .gathered .result)) (driven (at-drive .drive .result)) (at-verdict .reason-verdict .result)
-    (at-drive .before .gathered .ensures ∙ rw (toZ-ofZ f))
-    (at-drive .drive .ensures)
+    drive-accepted (state (at-gathered .gathered .result)) (driven (at-drive .drive .result)) (at-verdict .reason-verdict .result)
+    (at-gathered .gathered .ensures ∙ rw (toZ-ofZ f))
+    (at-drive .drive .ensures ∙ limit-same _ _ _ (at-limit .limit-word .ensures))
     (told-true (at-if1 .before .are-flags .ensures) (at-if1 .if1 .left))
     (at-verdict .reason-verdict .ensures)
     (at-accepted .enum-told .given .1)
@@ -89,6 +96,7 @@ muzserlik-ring-drive-fields-spec =
     number-requires
     returns
     gathered-requires
+    limit-word-requires
     drive-requires
     reason-verdict-requires
     enum-told

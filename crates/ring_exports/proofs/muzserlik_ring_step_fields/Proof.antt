@@ -1,12 +1,12 @@
-use borrow.Author.Needs.{needs, sfits-of}
+use borrow.Author.Needs.{needs}
 use mathlib.Core.Path.{_∙_}
 use mir.Facts.{toZ-ofZ}
 use mir.Syntax.{w64}
 use mir.Val.{SFits}
 use Rattle.laws.proofs.Tests.{told-false, told-true}
-use Rattle.ring.specs.View.{answer, state}
+use Rattle.lent.proofs.Ring.{kind-same, step-accepted, step-refused, step-unflagged}
 use Rattle.lent.specs.Ring.{flagsTest}
-use Rattle.lent.proofs.Ring.{step-accepted, step-refused, step-unflagged}
+use Rattle.ring.specs.View.{answer, state}
 use Rattle.ring_exports.proofs.muzserlik_ring_step_fields.Statement.{statement}
 use Rattle.ring_exports.proofs.muzserlik_ring_step_fields.Tie as tie
 
@@ -22,6 +22,9 @@ returns c = step-unflagged (told-false (c .before .before .are-flags .ensures) (
 
 gathered-requires : tie.Need-gathered-requires
 gathered-requires c κs = tt
+
+kind-byte-requires : tie.Need-kind-byte-requires
+kind-byte-requires c κs = tt
 
 step-requires : tie.Need-step-requires
 step-requires c κs = tt
@@ -39,42 +42,37 @@ returns-2 : tie.Need-returns-2
 unfolding flagsTest
 returns-2 c =
     let at-step = c .before .before .before in
-    let at-if1 = at-step .before .before .before .before .before .before .before .before .before in
+    let at-kind = at-step .before in
+    let at-gathered = at-kind .before in
+    let at-if1 = at-gathered .before .before .before .before .before .before .before .before in
     let start = at-if1 .before .before .before .before .before in
     let f : SFits w64 (start .args .q .now) = search needs in
-    step-refused (state (at-step .before .gathered .result)) (answer (at-step .step .result))
-    (at-step .before .gathered .ensures ∙ rw (toZ-ofZ f))
-    (at-step .step .ensures)
+    step-refused (state (at-gathered .gathered .result)) (answer (at-step .step .result))
+    (at-gathered .gathered .ensures ∙ rw (toZ-ofZ f))
+    (at-step .step .ensures ∙ kind-same _ _ (start .args .kind) _ _ (at-kind .kind-byte .ensures))
     (told-true (at-if1 .before .are-flags .ensures) (at-if1 .if1 .left))
     (c .before .enum-told2 .given .1)
     (c .code .ensures)
 
-ring-bytes-requires : tie.Need-ring-bytes-requires
-ring-bytes-requires c κs = tt
+scatter-requires : tie.Need-scatter-requires
+scatter-requires c κs = tt
 
-byte-requires : tie.Need-byte-requires
-byte-requires c κs = tt
-
-byte-requires-2 : tie.Need-byte-requires-2
-byte-requires-2 c κs = tt
-
--- q is the eighth of the fields that `struct-told` tells of
 returns-3 : tie.Need-returns-3
 unfolding flagsTest
 returns-3 c =
-    let at-bytes = c .before .before .before .before .before .before .before in
-    let at-accepted = at-bytes .before .before .before in
+    let at-accepted = c .before .before .before .before .before .before .before .before .before .before .before in
     let at-step = at-accepted .before .before in
-    let at-if1 = at-step .before .before .before .before .before .before .before .before .before in
+    let at-kind = at-step .before in
+    let at-gathered = at-kind .before in
+    let at-if1 = at-gathered .before .before .before .before .before .before .before .before in
     let start = at-if1 .before .before .before .before .before in
     let f : SFits w64 (start .args .q .now) = search needs in
-    let g : SFits w64 (at-step .step .result .ring .q) = sfits-of (c .before .before .struct-told .given .1 .1 .1 .1 .1 .1 .1 .0 .1) in
-    step-accepted (state (at-step .before .gathered .result)) (answer (at-step .step .result))
-    (at-step .before .gathered .ensures ∙ rw (toZ-ofZ f))
-    (at-step .step .ensures)
+    step-accepted (state (at-gathered .gathered .result)) (answer (at-step .step .result)) _
+    (at-gathered .gathered .ensures ∙ rw (toZ-ofZ f))
+    (at-step .step .ensures ∙ kind-same _ _ (start .args .kind) _ _ (at-kind .kind-byte .ensures))
     (told-true (at-if1 .before .are-flags .ensures) (at-if1 .if1 .left))
     (at-accepted .enum-told .given .1)
-    (rw (toZ-ofZ g, at-bytes .ring-bytes .ensures, c .before .byte .ensures, c .byte2 .ensures))
+    (c .scatter .ensures)
 
 pub muzserlik-ring-step-fields-spec : {M : Type 1} → statement M
 muzserlik-ring-step-fields-spec =
@@ -84,12 +82,11 @@ muzserlik-ring-step-fields-spec =
     number-requires
     returns
     gathered-requires
+    kind-byte-requires
     step-requires
     enum-told
     enum-told-2
     code-requires
     returns-2
-    ring-bytes-requires
-    byte-requires
-    byte-requires-2
+    scatter-requires
     returns-3)
