@@ -34,7 +34,7 @@ pub struct Log {
 }
 
 /// What the log has started.
-enum Run {
+pub enum Run {
     /// The first line has not come.
     Unstarted,
     /// The first line was refused: nothing more is read or written.
@@ -44,8 +44,8 @@ enum Run {
 }
 
 /// A ring beside what the log counts of it.
-struct RingRun {
-    ring: Ring,
+pub struct RingRun {
+    pub ring: Ring,
     /// Accepted sends.
     sends: u64,
     /// Accepted token moves.
@@ -65,6 +65,16 @@ impl Log {
             lines: 0,
             held: Vec::with_capacity(LINE_BYTES + 1),
         }
+    }
+
+    /// What the lines answered so far have led to.
+    pub fn run(&self) -> &Run {
+        &self.run
+    }
+
+    /// Lines answered so far.
+    pub fn lines(&self) -> u32 {
+        self.lines
     }
 
     /// Whether no further byte of the log is read.
@@ -141,6 +151,18 @@ impl Log {
             Run::Refused => Err(Refusal::NotAForm),
             Run::Ring(run) => run.carry_out(form_of(line)?),
             Run::Tree(tree) => tree.apply(tree_request(form_of(line)?)?),
+        }
+    }
+}
+
+impl Run {
+    /// The request of a line after the first, judged by its form alone.
+    pub fn request(&self, line: &[u8]) -> Result<Request, Refusal> {
+        let form = form_of(line)?;
+        match self {
+            Run::Unstarted | Run::Refused => Err(Refusal::NotAForm),
+            Run::Ring(_) => ring_request(form),
+            Run::Tree(_) => tree_request(form),
         }
     }
 }

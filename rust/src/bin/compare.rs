@@ -2,22 +2,22 @@
 //! `compare PROGRAM LOGS LINES [SEED]`.
 //!
 //! Log k has the seed SEED + k and a share of the lines that are left, so a failing log
-//! comes again as `compare PROGRAM 1 SHARE ITS-SEED`. One more log, longer than the
-//! greatest number of lines, follows at the end.
+//! comes again as `compare PROGRAM 1 SHARE ITS-SEED`. Two more logs, a ring's and a tree's
+//! that are longer than the greatest number of lines, follow at the end.
+//!
+//! Then it prints what was met, each figure with its bound; from the gate's 2,000 logs and
+//! 1,000,000 lines on it fails if a figure is not within it.
 
-use second::generate::{log, past_lines_limit, Rng};
+use second::generate::{log, past_line_limit, Rng};
 use second::log::{run, Log};
+use second::report::Report;
+use second::tally::{split, Tally};
 use std::io::{self, ErrorKind, Write};
 use std::process::{Command, ExitCode, Output, Stdio};
 
-/// The refusals that a log can reach. The others cannot come:
-/// 2, since flags are made from lists; 3, since a run keeps its state sound;
-/// 5, since each word has a kind; 9, since it needs 1,000,000 accepted sends before it
-/// and a log has at most 999,999 lines after its start; 11 and 12, since a log has no
-/// driver and the text of the tree always has room.
-const REACHED: [usize; 6] = [1, 4, 6, 7, 8, 10];
-/// Logs from which on every one of them must have been seen.
-const ENOUGH_LOGS: usize = 200;
+/// Logs and lines from which on the bounds are asked.
+const ENOUGH_LOGS: usize = 2_000;
+const ENOUGH_LINES: usize = 1_000_000;
 
 fn main() -> ExitCode {
     let arguments: Vec<String> = std::env::args().skip(1).collect();
@@ -26,15 +26,16 @@ fn main() -> ExitCode {
         return ExitCode::FAILURE;
     };
     match compare(program, logs, lines, seed) {
-        Ok(tally) => {
-            println!("{}", tally.summary());
-            ExitCode::SUCCESS
+        Ok(report) => {
+            let asked = logs >= ENOUGH_LOGS && lines >= ENOUGH_LINES;
+            if report.print() || !asked {
+                return ExitCode::SUCCESS;
+            }
+            println!("FAILED: figures marked ! are not within their bounds");
         }
-        Err(failure) => {
-            println!("{failure}");
-            ExitCode::FAILURE
-        }
+        Err(failure) => println!("{failure}"),
     }
+    ExitCode::FAILURE
 }
 
 fn parse(arguments: &[String]) -> Option<(&str, usize, usize, u64)> {
@@ -47,19 +48,26 @@ fn parse(arguments: &[String]) -> Option<(&str, usize, usize, u64)> {
     Some((program, numbers.0, numbers.1, numbers.2))
 }
 
-fn compare(program: &str, logs: usize, lines: usize, seed: u64) -> Result<Tally, String> {
+fn compare(program: &str, logs: usize, lines: usize, seed: u64) -> Result<Report, String> {
     let mut tally = Tally::default();
+    let mut report = Report::default();
+    let mut left = lines;
     for k in 0..logs {
         let seed = seed.wrapping_add(k as u64);
-        let share = lines.saturating_sub(tally.lines) / (logs - k);
+        let share = left / (logs - k);
         let input = log(seed, share);
+        left = left.saturating_sub(split(&input).count());
         compare_one(program, seed, &input, &mut tally)
             .map_err(|failure| format!("FAILED: seed {seed}, share {share}: {failure}"))?;
     }
-    compare_one(program, seed, &past_lines_limit(), &mut tally)
-        .map_err(|failure| format!("FAILED: the log past the limit of lines: {failure}"))?;
-    tally.check(logs)?;
-    Ok(tally)
+    tally.report_shares("same: logs by seed", &mut report);
+    for input in past_line_limit() {
+        compare_one(program, seed, &input, &mut tally)
+            .map_err(|failure| format!("FAILED: a log past the limit of lines: {failure}"))?;
+    }
+    tally.report_shares("same: all logs", &mut report);
+    tally.report(&mut report);
+    Ok(report)
 }
 
 fn compare_one(program: &str, seed: u64, input: &[u8], tally: &mut Tally) -> Result<(), String> {
@@ -136,74 +144,10 @@ fn same(input: &[u8], expected: &[u8], found: &[u8]) -> Result<(), String> {
     }
 }
 
-fn split(bytes: &[u8]) -> impl Iterator<Item = &[u8]> {
-    bytes.split_inclusive(|&byte| byte == b'\n')
-}
-
 fn shown(line: Option<&[u8]>) -> String {
     match line {
         None => "(nothing)".to_string(),
         Some(line) if line.len() > 900 => format!("({} bytes)", line.len()),
         Some(line) => line.escape_ascii().to_string(),
     }
-}
-
-/// What was compared.
-#[derive(Default)]
-struct Tally {
-    logs: usize,
-    lines: usize,
-    accepted: usize,
-    refused: [usize; 13],
-}
-
-impl Tally {
-    fn count(&mut self, input: &[u8], output: &[u8]) {
-        self.logs += 1;
-        self.lines += split(input).count();
-        for line in split(output) {
-            if line.starts_with(b"(ok ") {
-                self.accepted += 1;
-            } else if line.starts_with(b"(no ") {
-                self.refused[refusal_of(line)] += 1;
-            }
-        }
-    }
-
-    /// Every refusal that a log can reach was seen, and no other.
-    fn check(&self, logs: usize) -> Result<(), String> {
-        for (number, &count) in self.refused.iter().enumerate() {
-            let reached = REACHED.contains(&number);
-            if count > 0 && !reached {
-                return Err(format!("FAILED: a log cannot reach refusal {number}"));
-            }
-            if count == 0 && reached && logs >= ENOUGH_LOGS {
-                return Err(format!("FAILED: refusal {number} was never seen"));
-            }
-        }
-        Ok(())
-    }
-
-    fn summary(&self) -> String {
-        let refused: Vec<String> = (1..self.refused.len())
-            .filter(|&number| self.refused[number] > 0)
-            .map(|number| format!("{number}: {}", self.refused[number]))
-            .collect();
-        format!(
-            "same: {} logs, {} lines, {} accepted, refused {}",
-            self.logs,
-            self.lines,
-            self.accepted,
-            refused.join(", ")
-        )
-    }
-}
-
-/// The last number of a line `(no LINE NUMBER)`.
-fn refusal_of(line: &[u8]) -> usize {
-    let digits = line.rsplit(|&byte| byte == b' ').next().unwrap_or_default();
-    digits
-        .iter()
-        .filter(|byte| byte.is_ascii_digit())
-        .fold(0, |value, digit| 10 * value + usize::from(digit - b'0'))
 }

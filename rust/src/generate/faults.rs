@@ -1,37 +1,37 @@
-//! Logs with lines that are no forms.
+//! Lines that are no forms, or seldom.
 
 use super::rng::Rng;
 use crate::log::LINE_BYTES;
 
-/// A good log with damage: lines changed, or changed copies set before them.
-pub fn damaged(rng: &mut Rng, log: &[u8]) -> Vec<u8> {
-    let share = rng.pick(&[1, 10, 40]);
-    let keep_first = rng.chance(90);
-    let mut out = Vec::new();
-    for (k, line) in log.split_inclusive(|&byte| byte == b'\n').enumerate() {
-        let spared = k == 0 && keep_first;
-        if spared || !rng.chance(share) {
-            out.extend_from_slice(line);
-            continue;
-        }
-        let mut changed = line.to_vec();
-        damage(rng, &mut changed);
-        out.extend_from_slice(&changed);
-        if rng.chance(70) {
-            out.extend_from_slice(line);
-        }
+/// How a line is wrong.
+#[derive(Clone, Copy)]
+pub enum Fault {
+    /// A good line with one change.
+    Damage,
+    /// Random bytes.
+    Noise,
+    /// A word of either detector, a start, or a form with too few or too many numbers.
+    Foreign,
+    /// A line about the limit of bytes or far beyond it.
+    Long,
+}
+
+/// A wrong line in the place of a good one; it may hold more than one byte 10, or none.
+pub fn fault(rng: &mut Rng, kind: Fault, good: &[u8]) -> Vec<u8> {
+    match kind {
+        Fault::Damage => damaged(rng, good),
+        Fault::Noise => noise(rng),
+        Fault::Foreign => format!("{}\n", rng.pick(&FORMS)).into_bytes(),
+        Fault::Long => long(rng, good),
     }
-    if rng.chance(20) {
-        out.pop();
-    }
-    out
 }
 
 /// Bytes that lie near the forms, and some that lie far from them.
 const BYTES: &[u8] = b"()  0123456789abcdeghiklnoprstuvwAZ\t\r\n\0\x0b\x7f\x80\xff.-+,";
 
 /// One change of a line, which has its byte 10.
-fn damage(rng: &mut Rng, line: &mut Vec<u8>) {
+pub fn damaged(rng: &mut Rng, good: &[u8]) -> Vec<u8> {
+    let mut line = good.to_vec();
     let at = rng.below(line.len());
     let number_at = line.iter().position(u8::is_ascii_digit);
     match rng.below(14) {
@@ -45,11 +45,12 @@ fn damage(rng: &mut Rng, line: &mut Vec<u8>) {
         7 => line.insert(line.len() - 1, b' '),
         8 => line.make_ascii_uppercase(),
         9 => line[at].make_ascii_uppercase(),
-        10 => insert_at_number(line, number_at, b"0"),
-        11 => insert_at_number(line, number_at, b"1000"),
-        12 => insert_at_number(line, number_at, b"10000"),
+        10 => insert_at_number(&mut line, number_at, b"0"),
+        11 => insert_at_number(&mut line, number_at, b"1000"),
+        12 => insert_at_number(&mut line, number_at, b"10000"),
         _ => line.truncate(at),
     }
+    line
 }
 
 fn insert_at_number(line: &mut Vec<u8>, number_at: Option<usize>, bytes: &[u8]) {
@@ -58,18 +59,10 @@ fn insert_at_number(line: &mut Vec<u8>, number_at: Option<usize>, bytes: &[u8]) 
     }
 }
 
-/// Lines of random bytes after a good first line.
-pub fn noise(rng: &mut Rng, lines: usize) -> Vec<u8> {
-    let mut log = rng
-        .pick::<&[u8]>(&[b"(ring 3)\n", b"(tree 3 (root 1))\n"])
-        .to_vec();
-    for _ in 1..lines {
-        for _ in 0..rng.below(12) {
-            log.push(rng.pick(BYTES));
-        }
-        log.push(b'\n');
-    }
-    log
+fn noise(rng: &mut Rng) -> Vec<u8> {
+    let mut line: Vec<u8> = (0..rng.below(12)).map(|_| rng.pick(BYTES)).collect();
+    line.push(b'\n');
+    line
 }
 
 /// Forms of both detectors, and some that are none.
@@ -106,38 +99,14 @@ const FORMS: [&str; 30] = [
     "((send 0 1))",
 ];
 
-/// Words of both watches, second starts, and forms with too few or too many numbers.
-pub fn foreign_words(rng: &mut Rng, lines: usize) -> Vec<u8> {
-    let start = rng.pick(&[
-        "(ring 3 (active 0 1 2) (black))",
-        "(tree 3 (root 0))",
-        "(ring 1)",
-        "(tree 1 (root 0))",
-    ]);
-    let mut log = format!("{start}\n").into_bytes();
-    for _ in 0..lines {
-        log.extend_from_slice(rng.pick(&FORMS).as_bytes());
-        log.push(b'\n');
-    }
-    log
-}
-
-/// Lines about the limit of bytes and far beyond it, between good ones.
-pub fn long_lines(rng: &mut Rng, lines: usize) -> Vec<u8> {
-    let mut log = b"(ring 2)\n".to_vec();
-    for _ in 0..lines {
-        let length = match rng.below(8) {
-            0..=5 => LINE_BYTES - 2 + rng.below(5),
-            6 => LINE_BYTES * rng.below(4),
-            _ => rng.below(20_000),
-        };
-        let filler = rng.pick(b"x 0(");
-        log.resize(log.len() + length, filler);
-        log.extend_from_slice(rng.pick::<&[u8]>(&[b"\n", b"(probe)\n", b"\n(probe)\n", b"\n\n"]));
-        log.extend_from_slice(rng.pick::<&[u8]>(&[b"(pass 1)\n", b"(probe)\n", b""]));
-    }
-    if rng.chance(30) {
-        log.resize(log.len() + rng.below(100_000), b'x');
-    }
-    log
+/// What is too long alone, before a good line, or as the beginning of one.
+fn long(rng: &mut Rng, good: &[u8]) -> Vec<u8> {
+    let length = match rng.below(8) {
+        0..=5 => LINE_BYTES - 2 + rng.below(5),
+        6 => LINE_BYTES * rng.below(4),
+        _ => rng.below(20_000),
+    };
+    let mut line = vec![rng.pick(b"x 0("); length];
+    line.extend_from_slice(rng.pick(&[b"\n", good, b"\n\n"]));
+    line
 }

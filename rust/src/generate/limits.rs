@@ -1,6 +1,8 @@
 //! Logs at and about the limits of the paper.
 
-use super::{Rng, Writer};
+use super::rng::Rng;
+use super::writer::Writer;
+use super::LARGE;
 use crate::log::{LINE_BYTES, LINE_LIMIT};
 use crate::ring;
 
@@ -94,7 +96,7 @@ const FIRST_LINES: &[&str] = &[
 ];
 
 /// What may follow a first line, its byte 10 among it or missing.
-const REMAINDERS: &[&str] = &[
+pub const REMAINDERS: &[&str] = &[
     "\n(probe)\n(pass 1)\n(announce)\n(probe)\n(idle 99999)\n(send 7 7)\n",
     "\n(idle 0)\n(announce)\n(send 0 1)\n(ack 0)\n(tree 3 (root 0))\n(ring 2)",
     "\n",
@@ -109,7 +111,7 @@ const REMAINDERS: &[&str] = &[
 /// Logs that are whole at a limit.
 fn whole_limits() -> Vec<Vec<u8>> {
     let all: Vec<usize> = (0..ring::MAX_NODES).collect();
-    let longest_start = Writer::ring(ring::MAX_NODES, &all, &all).log;
+    let longest_start = Writer::ring(ring::MAX_NODES, &all, &all).finish();
     vec![
         b"".to_vec(),
         b"\n".to_vec(),
@@ -135,7 +137,7 @@ fn whole_limits() -> Vec<Vec<u8>> {
 
 /// A well formed ring line of `length` bytes with its byte 10: it names nodes of
 /// N or more, so it is refused with 6, or with 10 if it is too long.
-fn listed_start(length: usize) -> Vec<u8> {
+pub fn listed_start(length: usize) -> Vec<u8> {
     let (head, tail) = ("(ring 96 (active", ") (black))\n");
     let mut room = length - head.len() - tail.len();
     let mut line = head.to_string();
@@ -161,10 +163,19 @@ pub fn limit(rng: &mut Rng, index: usize) -> Vec<u8> {
     }
 }
 
-/// A log that goes on past the greatest number of lines, which are all read and no more.
-pub fn past_lines_limit() -> Vec<u8> {
-    let mut log = b"(ring 2)\n".to_vec();
-    log.resize(log.len() + LINE_LIMIT as usize - 3, b'\n');
-    log.extend_from_slice(b"(probe)\n(pass 1)\n(probe)\n(announce)\n");
-    log
+/// Lines past the greatest number of lines.
+const PAST: usize = 1_000;
+
+/// A ring's log and a tree's that go on past the greatest number of lines: those are all
+/// read and no more. The last of them and the first past it are allowed requests.
+pub fn past_line_limit() -> [Vec<u8>; 2] {
+    [Writer::ring(5, &[0, 2], &[1]), Writer::tree(5, 3)].map(|mut writer| {
+        let rng = &mut Rng::new(5);
+        writer.guided(rng, LINE_LIMIT as usize - 1, LARGE, false);
+        for _ in 0..=PAST {
+            let allowed = writer.model().allowed(rng, false);
+            writer.request(allowed.expect("a run that is not terminated"));
+        }
+        writer.finish()
+    })
 }

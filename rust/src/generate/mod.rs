@@ -1,164 +1,73 @@
-//! Logs made from a seed: guided runs, random requests, damaged lines and limits.
+//! Logs made from a seed: runs guided by their state, with refused requests and wrong
+//! lines among them, and first lines at and beyond the limits of the paper.
 //! The same seed and size give the same log.
 
 mod faults;
 mod limits;
 mod model;
 mod rng;
+mod starts;
+mod writer;
 
-pub use limits::past_lines_limit;
+pub use limits::past_line_limit;
+pub use model::Model;
 pub use rng::Rng;
 
-use crate::request::{Request, ANNOUNCE, SEND};
-use crate::ring::{self, Ring};
-use crate::tree::{self, Tree};
-use faults::{damaged, foreign_words, long_lines, noise};
+use crate::request::{Request, ANNOUNCE, IDLE, SEND, TAKE};
+use crate::ring;
+use crate::tree;
+use faults::Fault;
 use limits::limit;
-use model::{Model, RingModel, Words};
-use std::io::Write;
+use starts::{refused_start, CAUSES};
+use writer::{Mix, Writer};
 
-/// A log being written, beside the state it leads to.
-struct Writer<M> {
-    model: M,
-    log: Vec<u8>,
-    lines: usize,
-}
-
-impl Writer<RingModel> {
-    fn ring(n: usize, active: &[usize], black: &[usize]) -> Self {
-        let mut log = format!("(ring {n}").into_bytes();
-        let mut flags = vec![0; n];
-        if !active.is_empty() || !black.is_empty() || n.is_multiple_of(2) {
-            push_list(&mut log, " (active", active);
-            push_list(&mut log, " (black", black);
-        }
-        log.extend_from_slice(b")\n");
-        active.iter().for_each(|&i| flags[i] |= 1);
-        black.iter().for_each(|&i| flags[i] |= 2);
-        let ring = Ring::start(n, &flags).expect("a start within the limits");
-        Self {
-            model: RingModel { ring, sends: 0 },
-            log,
-            lines: 1,
-        }
-    }
-
-    /// A ring with random lists.
-    fn random_ring(rng: &mut Rng, n: usize) -> Self {
-        let (share_active, share_black) = (rng.below(101), rng.below(101));
-        let active: Vec<usize> = (0..n).filter(|_| rng.chance(share_active)).collect();
-        let black: Vec<usize> = (0..n).filter(|_| rng.chance(share_black)).collect();
-        Self::ring(n, &active, &black)
+const fn mix(random: usize, tempting: usize, faults: usize, fault: Fault) -> Mix {
+    Mix {
+        random,
+        tempting,
+        faults,
+        fault,
+        messages: u64::MAX,
+        eager: if tempting > 0 { 10 } else { 0 },
     }
 }
 
-impl Writer<Tree> {
-    fn tree(n: usize, root: usize) -> Self {
-        Self {
-            model: Tree::start(n, root).expect("a start within the limits"),
-            log: format!("(tree {n} (root {root}))\n").into_bytes(),
-            lines: 1,
-        }
+/// A mix of few messages, which bring a run near to its end again and again.
+const fn calm(messages: u64, faults: usize) -> Mix {
+    Mix {
+        messages,
+        eager: 40,
+        ..mix(0, 20, faults, Fault::Damage)
     }
 }
 
-impl<M: Model> Writer<M> {
-    /// Writes a request and does it; tells whether it was accepted.
-    fn request(&mut self, request: Request) -> bool {
-        push_request(&mut self.log, &M::WORDS, request);
-        self.lines += 1;
-        self.model.apply(request)
-    }
+/// What the guided runs hold beside allowed requests.
+const MIXES: [Mix; 10] = [
+    mix(0, 0, 0, Fault::Noise),
+    mix(0, 30, 0, Fault::Noise),
+    mix(5, 10, 1, Fault::Damage),
+    mix(0, 10, 10, Fault::Damage),
+    mix(0, 0, 40, Fault::Damage),
+    mix(0, 10, 20, Fault::Noise),
+    mix(0, 10, 30, Fault::Foreign),
+    mix(70, 0, 0, Fault::Noise),
+    calm(1, 0),
+    calm(3, 5),
+];
+/// Lines that are too long take much room, so few logs have them, and no large ones.
+const LONG_LINES: Mix = mix(0, 10, 20, Fault::Long);
+const FEW_LINES: usize = 200;
+/// A run that is nearly over from its beginning.
+const NEAR_THE_END: Mix = Mix {
+    eager: 80,
+    ..calm(0, 0)
+};
+/// A large log, a log past the limit of lines.
+const LARGE: Mix = mix(5, 10, 3, Fault::Noise);
+/// A benchmark log: about one line in ten is a random request.
+const BENCHMARK: Mix = mix(10, 0, 0, Fault::Noise);
 
-    fn random_request(&mut self, rng: &mut Rng) -> bool {
-        let request = random_request(rng, self.model.n());
-        self.request(request)
-    }
-
-    /// Allowed requests until `lines` lines are written, `wild` in a hundred being
-    /// random ones. A run that is not terminated stays so.
-    fn busy(&mut self, rng: &mut Rng, lines: usize, wild: usize) {
-        while self.lines < lines {
-            let request = if rng.chance(wild) {
-                random_request(rng, self.model.n())
-            } else {
-                match self.model.allowed(rng, false) {
-                    Some(request) => request,
-                    None => return,
-                }
-            };
-            if !self.model.terminates(request) {
-                self.request(request);
-            } else if self.model.n() == 1 {
-                return;
-            }
-        }
-    }
-
-    /// Allowed requests but sends until none is left: the announcement is next.
-    fn wind_down(&mut self, rng: &mut Rng, lines: usize) {
-        while self.lines < lines {
-            match self.model.allowed(rng, true) {
-                Some(request) => self.request(request),
-                None => return,
-            };
-        }
-    }
-
-    /// A whole run: busy, winding down, the announcement, and requests after it.
-    fn whole_run(mut self, rng: &mut Rng, lines: usize) -> Vec<u8> {
-        let wild = rng.pick(&[0, 2, 10]);
-        let busy_lines = lines * (20 + rng.below(60)) / 100;
-        self.busy(rng, busy_lines, wild);
-        self.wind_down(rng, 2 * lines + 1_000);
-        self.request(Request::new(ANNOUNCE, 0, 0));
-        for _ in 0..rng.below(12) {
-            self.random_request(rng);
-        }
-        self.log
-    }
-
-    /// Random requests alone, and not many more once an announcement is accepted.
-    fn random_run(mut self, rng: &mut Rng, lines: usize) -> Vec<u8> {
-        while self.lines < lines && !(self.model.is_closed() && rng.chance(5)) {
-            self.random_request(rng);
-        }
-        self.log
-    }
-}
-
-fn push_list(log: &mut Vec<u8>, word: &str, list: &[usize]) {
-    log.extend_from_slice(word.as_bytes());
-    for i in list {
-        write!(log, " {i}").expect("writing to memory");
-    }
-    log.push(b')');
-}
-
-fn push_request(log: &mut Vec<u8>, words: &Words, request: Request) {
-    let (word, count) = words[request.kind - 1];
-    write!(log, "({word}").expect("writing to memory");
-    for number in [request.i, request.j].iter().take(count) {
-        write!(log, " {number}").expect("writing to memory");
-    }
-    log.extend_from_slice(b")\n");
-}
-
-/// Any kind, with numbers that are mostly below `n`.
-fn random_request(rng: &mut Rng, n: usize) -> Request {
-    let kind = 1 + rng.below(6);
-    Request::new(kind, random_number(rng, n), random_number(rng, n))
-}
-
-fn random_number(rng: &mut Rng, n: usize) -> usize {
-    match rng.below(40) {
-        0 => n,
-        1 => rng.pick(&[n + 1, 15, 16, 95, 96, 99, 100, 255, 256, 65_535, 99_999]),
-        _ => rng.below(n),
-    }
-}
-
-/// Small rings mostly, since more of their random requests are accepted.
+/// Small rings mostly: the token goes round them often.
 fn ring_size(rng: &mut Rng) -> usize {
     match rng.below(10) {
         0 => 1,
@@ -176,54 +85,87 @@ fn tree_size(rng: &mut Rng) -> usize {
     }
 }
 
-/// The log of a seed, of about `size` lines on the average.
-pub fn log(seed: u64, size: usize) -> Vec<u8> {
-    let mut rng = Rng::new(seed);
-    let size = size.max(4);
-    let lines = 1 + rng.below(2 * size);
-    let n = ring_size(&mut rng);
-    let tree_n = tree_size(&mut rng);
-    let root = rng.below(tree_n);
-    match seed % 16 {
-        0 | 1 => Writer::random_ring(&mut rng, n).whole_run(&mut rng, lines),
-        2 | 3 => Writer::tree(tree_n, root).whole_run(&mut rng, lines),
-        4 => Writer::random_ring(&mut rng, n).random_run(&mut rng, lines),
-        5 => Writer::tree(tree_n, root).random_run(&mut rng, lines),
-        6 => {
-            let log = Writer::random_ring(&mut rng, n).whole_run(&mut rng, lines);
-            damaged(&mut rng, &log)
-        }
-        7 => {
-            let log = Writer::tree(tree_n, root).whole_run(&mut rng, lines);
-            damaged(&mut rng, &log)
-        }
-        8 => many_probes(&mut rng, n, lines),
-        9 => large_ring(&mut rng, size),
-        10 => large_tree(&mut rng, size),
-        11 => noise(&mut rng, lines),
-        12 => foreign_words(&mut rng, lines.min(200)),
-        13 => long_lines(&mut rng, lines.min(100)),
-        _ => limit(&mut rng, (seed / 16 * 2 + seed % 2) as usize),
+/// A ring or a tree, turn by turn.
+fn started(rng: &mut Rng, turn: usize) -> Writer {
+    if turn.is_multiple_of(2) {
+        let n = ring_size(rng);
+        Writer::random_ring(rng, n)
+    } else {
+        let n = tree_size(rng);
+        Writer::tree(n, rng.below(n))
     }
 }
 
-/// A ring with a message that is never taken: its token goes round for ever.
-fn many_probes(rng: &mut Rng, n: usize, lines: usize) -> Vec<u8> {
-    let n = n.max(2);
-    let sender = rng.below(n);
-    let receiver = (sender + 1 + rng.below(n - 1)) % n;
+/// The seeds take turns: guided runs with each mix on a ring and on a tree, long lines,
+/// large runs, listed limits, late receipts, and first lines refused for each cause.
+const MIXED: usize = 2 * MIXES.len();
+const LATE: usize = 5;
+const TURNS: usize = MIXED + 6 + LATE + CAUSES;
+
+/// The log of a seed, of about `size` lines on the average.
+pub fn log(seed: u64, size: usize) -> Vec<u8> {
+    let mut rng = Rng::new(seed);
+    let turn = (seed % TURNS as u64) as usize;
+    let round = (seed / TURNS as u64) as usize;
+    let lines = 1 + rng.below(2 * size.max(4));
+    if turn < MIXED {
+        let log = started(&mut rng, turn).whole_run(&mut rng, lines, MIXES[turn / 2]);
+        return cut(&mut rng, log);
+    }
+    match turn - MIXED {
+        long @ (0 | 1) => {
+            let lines = lines.min(FEW_LINES);
+            let log = started(&mut rng, long).whole_run(&mut rng, lines, LONG_LINES);
+            long_end(&mut rng, log)
+        }
+        2 => large_ring(&mut rng, size),
+        3 => large_tree(&mut rng, size),
+        half @ (4 | 5) => limit(&mut rng, 2 * round + half),
+        6 => late_receipt(&mut rng, lines),
+        7..=10 => late_receipt(&mut rng, 0),
+        cause => refused_start(&mut rng, cause - 6 - LATE, round),
+    }
+}
+
+/// Now and then the last line lacks its byte 10.
+fn cut(rng: &mut Rng, mut log: Vec<u8>) -> Vec<u8> {
+    if rng.chance(10) {
+        log.pop();
+    }
+    log
+}
+
+/// Now and then the last line is far too long, and lacks its byte 10.
+fn long_end(rng: &mut Rng, mut log: Vec<u8>) -> Vec<u8> {
+    if rng.chance(30) {
+        log.resize(log.len() + rng.below(100_000), b'x');
+    }
+    log
+}
+
+/// A ring whose token goes round for `lines` lines, or for few rounds, since a message is
+/// not taken. Then it is, mostly by node 0, somewhere in a round that may be white; its
+/// receiver becomes passive at once, or stays active until the token moves no more.
+fn late_receipt(rng: &mut Rng, lines: usize) -> Vec<u8> {
+    let n = ring_size(rng).max(2);
+    let receiver = if rng.chance(60) { 0 } else { rng.below(n) };
+    let sender = (receiver + 1 + rng.below(n - 1)) % n;
     let black: Vec<usize> = (0..n).filter(|_| rng.chance(30)).collect();
     let mut writer = Writer::ring(n, &[sender], &black);
     writer.request(Request::new(SEND, sender, receiver));
-    while writer.lines < lines {
-        let ring = &writer.model.ring;
-        let next = ring.token_move().or_else(|| writer.model.idle_holder());
-        match next {
-            Some(request) => writer.request(request),
-            None => writer.request(Request::new(ANNOUNCE, 0, 0)),
-        };
+    let lines = lines.max(2 * n + rng.below(2 * n + 4));
+    while writer.lines() < lines {
+        let moved = writer.token_move();
+        writer.request(moved.unwrap_or(Request::new(ANNOUNCE, 0, 0)));
     }
-    writer.log
+    writer.request(Request::new(TAKE, receiver, 0));
+    if rng.chance(60) {
+        writer.request(Request::new(IDLE, receiver, 0));
+    } else {
+        writer.move_token();
+    }
+    writer.request(Request::new(ANNOUNCE, 0, 0));
+    writer.end(rng, lines, NEAR_THE_END)
 }
 
 /// A few times the size, and seldom many times.
@@ -237,27 +179,27 @@ fn large(rng: &mut Rng, size: usize) -> usize {
 
 fn large_ring(rng: &mut Rng, size: usize) -> Vec<u8> {
     let lines = large(rng, size);
-    let n = rng.pick(&[2, 7, 31, 64, 96]);
+    let n = rng.pick(&[2, 7, 31, 64, ring::MAX_NODES]);
     let mut writer = Writer::random_ring(rng, n);
-    writer.busy(rng, lines, 10);
-    writer.log
+    writer.guided(rng, lines, LARGE, false);
+    writer.finish()
 }
 
 fn large_tree(rng: &mut Rng, size: usize) -> Vec<u8> {
     let lines = large(rng, size);
-    let n = rng.pick(&[2, 5, 10, 16]);
+    let n = rng.pick(&[2, 5, 10, tree::MAX_NODES]);
     let mut writer = Writer::tree(n, rng.below(n));
-    writer.busy(rng, lines, 10);
-    writer.log
+    writer.guided(rng, lines, LARGE, false);
+    writer.finish()
 }
 
-/// A busy ring of 96 that is never quiet, about one line in ten being a random request.
+/// A busy ring of the greatest size that is never quiet.
 pub fn busy_ring(lines: usize) -> Vec<u8> {
     let rng = &mut Rng::new(96);
     let half: Vec<usize> = (0..ring::MAX_NODES).filter(|i| i % 2 == 0).collect();
     let mut writer = Writer::ring(ring::MAX_NODES, &half, &[]);
-    writer.busy(rng, lines, 10);
-    writer.log
+    writer.guided(rng, lines, BENCHMARK, false);
+    writer.finish()
 }
 
 /// A ring of 2 that only moves its token. Node 0 has sent a message that is never
@@ -267,17 +209,17 @@ pub fn busy_ring(lines: usize) -> Vec<u8> {
 pub fn moving_token(lines: usize) -> Vec<u8> {
     let mut writer = Writer::ring(2, &[0], &[]);
     writer.request(Request::new(SEND, 0, 1));
-    while writer.lines < lines {
-        let request = writer.model.ring.token_move();
-        writer.request(request.expect("a sum above 0 at node 0, a passive node 1"));
+    while writer.lines() < lines {
+        let moved = writer.token_move();
+        writer.request(moved.expect("a sum above 0 at node 0, a passive node 1"));
     }
-    writer.log
+    writer.finish()
 }
 
-/// A busy tree of 16, about one line in ten being a random request.
+/// A busy tree of the greatest size.
 pub fn busy_tree(lines: usize) -> Vec<u8> {
     let rng = &mut Rng::new(16);
     let mut writer = Writer::tree(tree::MAX_NODES, 0);
-    writer.busy(rng, lines, 10);
-    writer.log
+    writer.guided(rng, lines, BENCHMARK, false);
+    writer.finish()
 }

@@ -1,7 +1,7 @@
 //! The rules as a guide to which requests will be accepted next.
 
 use super::rng::Rng;
-use crate::request::{Request, ACK, IDLE, LEAVE, PROBE, SEND, TAKE};
+use crate::request::{Request, ACK, ANNOUNCE, IDLE, LEAVE, PROBE, SEND, TAKE};
 use crate::ring::Ring;
 use crate::tree::Tree;
 
@@ -24,110 +24,142 @@ const TREE_WORDS: Words = [
     ("announce", 0),
 ];
 
-/// The state that a log being written leads to.
+/// The state that a run leads to.
 pub trait Model {
-    const WORDS: Words;
-
+    fn words(&self) -> &'static Words;
     fn n(&self) -> usize;
-    fn is_closed(&self) -> bool;
-    fn apply(&mut self, request: Request) -> bool;
 
     /// A request that the rules allow; while winding down no send.
     fn allowed(&self, rng: &mut Rng, winding_down: bool) -> Option<Request>;
 
-    /// The nodes that are active, if no message is in transit.
-    fn only_active(&self) -> Option<&[bool]>;
+    fn active(&self) -> &[bool];
+
+    /// Messages in transit.
+    fn messages(&self) -> u64;
+
+    /// The node that announces.
+    fn announcer(&self) -> usize;
+
+    /// Whether the announcement is refused by few of its tests, or by none.
+    fn is_nearly_over(&self) -> bool;
 
     /// Whether a request makes the last active node passive with no message in transit.
     fn terminates(&self, request: Request) -> bool {
         request.kind == IDLE
-            && self
-                .only_active()
-                .is_some_and(|active| (0..self.n()).all(|i| i == request.i || !active[i]))
+            && self.messages() == 0
+            && (0..self.n()).all(|i| i == request.i || !self.active()[i])
+    }
+
+    /// A request that is likely to be refused, and near to one that is not.
+    fn tempting(&self, rng: &mut Rng) -> Request {
+        let n = self.n();
+        let i = match rng.below(3) {
+            0 => self.announcer(),
+            _ => rng.below(n),
+        };
+        match rng.below(8) {
+            0 | 1 => Request::new(SEND, i, i),
+            2 | 3 => self.beyond(rng),
+            4 => Request::new(ANNOUNCE, 0, 0),
+            _ => Request::new(1 + rng.below(6), i, rng.below(n)),
+        }
+    }
+
+    /// A request with a node number of N or more.
+    fn beyond(&self, rng: &mut Rng) -> Request {
+        let n = self.n();
+        let far = n + rng.pick(&[0, 0, 0, 1, 16, 80, 256, 65_536, 99_000]);
+        let near = rng.below(n);
+        let kind = rng
+            .node(6, |kind| self.words()[kind].1 > 0)
+            .expect("words with a number");
+        let (i, j) = match self.words()[kind].1 {
+            1 => (far, near),
+            _ => rng.pick(&[(far, near), (near, far), (far, far)]),
+        };
+        Request::new(kind + 1, i, j)
     }
 }
 
-pub struct RingModel {
-    pub ring: Ring,
-    pub sends: u64,
-}
-
-impl Model for RingModel {
-    const WORDS: Words = RING_WORDS;
+impl Model for Ring {
+    fn words(&self) -> &'static Words {
+        &RING_WORDS
+    }
 
     fn n(&self) -> usize {
-        self.ring.n
-    }
-
-    fn is_closed(&self) -> bool {
-        self.ring.closed
-    }
-
-    fn apply(&mut self, request: Request) -> bool {
-        let accepted = self.ring.apply(request, self.sends).is_ok();
-        self.sends += u64::from(accepted && request.kind == SEND);
-        accepted
+        self.n
     }
 
     fn allowed(&self, rng: &mut Rng, winding_down: bool) -> Option<Request> {
         const CLASSES: [usize; 10] = [
             SEND, SEND, SEND, TAKE, TAKE, TAKE, IDLE, PROBE, PROBE, PROBE,
         ];
-        if self.ring.closed {
+        if self.closed {
             return None;
         }
         let first = rng.below(CLASSES.len());
         (0..CLASSES.len())
             .map(|k| CLASSES[(first + k) % CLASSES.len()])
             .filter(|&class| class != SEND || !winding_down)
-            .find_map(|class| self.allowed_of(class, rng))
+            .find_map(|class| ring_allowed_of(self, class, rng))
     }
 
-    fn only_active(&self) -> Option<&[bool]> {
-        (self.ring.in_transit() == 0).then_some(&self.ring.active)
+    fn active(&self) -> &[bool] {
+        &self.active
+    }
+
+    fn messages(&self) -> u64 {
+        self.in_transit()
+    }
+
+    fn announcer(&self) -> usize {
+        0
+    }
+
+    fn is_nearly_over(&self) -> bool {
+        let sum = self.token.q + self.counter(0);
+        let failing = [
+            self.token.pos != 0,
+            self.token.black,
+            self.is_black(0),
+            sum != 0,
+            self.active[0],
+        ];
+        failing.iter().filter(|&&fails| fails).count() < 2
     }
 }
 
-impl RingModel {
-    fn allowed_of(&self, class: usize, rng: &mut Rng) -> Option<Request> {
-        let ring = &self.ring;
-        let active = |i: usize| ring.active[i];
-        match class {
-            SEND if ring.n > 1 => {
-                let i = rng.node(ring.n, active)?;
-                let j = (i + 1 + rng.below(ring.n - 1)) % ring.n;
-                Some(Request::new(SEND, i, j))
-            }
-            SEND => None,
-            TAKE => {
-                let i = rng.node(ring.n, |i| ring.pending[i] > 0)?;
-                Some(Request::new(TAKE, i, 0))
-            }
-            IDLE => Some(Request::new(IDLE, rng.node(ring.n, active)?, 0)),
-            _ => ring.token_move().or_else(|| self.idle_holder()),
+fn ring_allowed_of(ring: &Ring, class: usize, rng: &mut Rng) -> Option<Request> {
+    let active = |i: usize| ring.active[i];
+    match class {
+        SEND if ring.n > 1 => {
+            let i = rng.node(ring.n, active)?;
+            let j = (i + 1 + rng.below(ring.n - 1)) % ring.n;
+            Some(Request::new(SEND, i, j))
         }
+        SEND => None,
+        TAKE => {
+            let i = rng.node(ring.n, |i| ring.pending[i] > 0)?;
+            Some(Request::new(TAKE, i, 0))
+        }
+        IDLE => Some(Request::new(IDLE, rng.node(ring.n, active)?, 0)),
+        _ => ring.token_move().or_else(|| idle_holder(ring)),
     }
+}
 
-    /// An active holder keeps the token, so it becomes passive first.
-    pub fn idle_holder(&self) -> Option<Request> {
-        let pos = self.ring.token.pos;
-        self.ring.active[pos].then(|| Request::new(IDLE, pos, 0))
-    }
+/// An active holder keeps the token, so it becomes passive first.
+pub fn idle_holder(ring: &Ring) -> Option<Request> {
+    let pos = ring.token.pos;
+    ring.active[pos].then(|| Request::new(IDLE, pos, 0))
 }
 
 impl Model for Tree {
-    const WORDS: Words = TREE_WORDS;
+    fn words(&self) -> &'static Words {
+        &TREE_WORDS
+    }
 
     fn n(&self) -> usize {
         self.n
-    }
-
-    fn is_closed(&self) -> bool {
-        self.closed
-    }
-
-    fn apply(&mut self, request: Request) -> bool {
-        Tree::apply(self, request).is_ok()
     }
 
     fn allowed(&self, rng: &mut Rng, winding_down: bool) -> Option<Request> {
@@ -144,9 +176,24 @@ impl Model for Tree {
             .find_map(|class| tree_allowed_of(self, class, rng))
     }
 
-    fn only_active(&self) -> Option<&[bool]> {
-        let nothing = self.in_transit.iter().flatten().all(|&count| count == 0);
-        nothing.then_some(&self.active)
+    fn active(&self) -> &[bool] {
+        &self.active
+    }
+
+    fn messages(&self) -> u64 {
+        self.in_transit
+            .iter()
+            .flatten()
+            .map(|&c| u64::from(c))
+            .sum()
+    }
+
+    fn announcer(&self) -> usize {
+        self.root
+    }
+
+    fn is_nearly_over(&self) -> bool {
+        u32::from(self.active[self.root]) + self.unacked[self.root] < 2
     }
 }
 

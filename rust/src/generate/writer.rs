@@ -1,0 +1,207 @@
+//! A log being written, beside the state that its lines lead to.
+
+use super::faults::{fault, Fault};
+use super::model::{idle_holder, Model, Words};
+use super::rng::Rng;
+use crate::log::{Log, Run};
+use crate::request::{Request, ANNOUNCE, IDLE};
+use std::io::Write;
+
+/// What a guided run holds beside the requests that the rules allow: lines in a hundred.
+#[derive(Clone, Copy)]
+pub struct Mix {
+    /// Any requests.
+    pub random: usize,
+    /// Requests that are likely to be refused.
+    pub tempting: usize,
+    /// Lines that are no forms, mostly.
+    pub faults: usize,
+    pub fault: Fault,
+    /// Messages in transit from which on no send is allowed.
+    pub messages: u64,
+    /// How often, in a hundred times that it is nearly over, the announcement is asked for.
+    pub eager: usize,
+}
+
+pub struct Writer {
+    log: Vec<u8>,
+    /// The second implementation, fed with all of `log`.
+    reader: Log,
+}
+
+impl Writer {
+    pub fn new(first_line: &[u8]) -> Self {
+        let mut writer = Self {
+            log: Vec::new(),
+            reader: Log::new(),
+        };
+        writer.write(first_line);
+        writer
+    }
+
+    pub fn ring(n: usize, active: &[usize], black: &[usize]) -> Self {
+        let mut line = format!("(ring {n}").into_bytes();
+        if !active.is_empty() || !black.is_empty() || n.is_multiple_of(2) {
+            push_list(&mut line, " (active", active);
+            push_list(&mut line, " (black", black);
+        }
+        line.extend_from_slice(b")\n");
+        Self::new(&line)
+    }
+
+    /// A ring with random lists.
+    pub fn random_ring(rng: &mut Rng, n: usize) -> Self {
+        let (share_active, share_black) = (rng.below(101), rng.below(101));
+        let active: Vec<usize> = (0..n).filter(|_| rng.chance(share_active)).collect();
+        let black: Vec<usize> = (0..n).filter(|_| rng.chance(share_black)).collect();
+        Self::ring(n, &active, &black)
+    }
+
+    pub fn tree(n: usize, root: usize) -> Self {
+        Self::new(format!("(tree {n} (root {root}))\n").as_bytes())
+    }
+
+    pub fn write(&mut self, bytes: &[u8]) {
+        self.log.extend_from_slice(bytes);
+        self.reader.feed(bytes, &mut Vec::new());
+    }
+
+    pub fn request(&mut self, request: Request) {
+        let line = line_of(self.model().words(), request);
+        self.write(&line);
+    }
+
+    /// Lines answered so far.
+    pub fn lines(&self) -> usize {
+        self.reader.lines() as usize
+    }
+
+    pub fn model(&self) -> &dyn Model {
+        match self.reader.run() {
+            Run::Ring(run) => &run.ring,
+            Run::Tree(tree) => tree,
+            Run::Unstarted | Run::Refused => panic!("a refused first line"),
+        }
+    }
+
+    /// A ring's token move, or what makes one possible.
+    pub fn token_move(&self) -> Option<Request> {
+        match self.reader.run() {
+            Run::Ring(run) => run.ring.token_move().or_else(|| idle_holder(&run.ring)),
+            _ => None,
+        }
+    }
+
+    /// Token moves alone, until none is allowed.
+    pub fn move_token(&mut self) {
+        while let Some(request) = self.token_move().filter(|request| request.kind != IDLE) {
+            self.request(request);
+        }
+    }
+
+    pub fn finish(self) -> Vec<u8> {
+        self.log
+    }
+
+    /// Allowed requests and what the mix adds, until `lines` lines are written or no
+    /// request is allowed. Winding down there are no allowed sends; else a run that is
+    /// not terminated stays so.
+    pub fn guided(&mut self, rng: &mut Rng, lines: usize, mix: Mix, winding_down: bool) {
+        while self.lines() < lines {
+            let roll = rng.below(100);
+            let model = self.model();
+            let request = if roll < mix.random {
+                random_request(rng, model.n())
+            } else if roll < mix.random + mix.tempting {
+                model.tempting(rng)
+            } else if roll < mix.random + mix.tempting + mix.faults {
+                self.fault(rng, mix.fault);
+                continue;
+            } else if let Some(request) = allowed(rng, model, mix, winding_down) {
+                request
+            } else {
+                return;
+            };
+            if winding_down || !self.model().terminates(request) {
+                self.request(request);
+            } else if self.model().n() == 1 {
+                return;
+            }
+            if mix.eager > 0 && self.model().is_nearly_over() && rng.chance(mix.eager) {
+                self.request(Request::new(ANNOUNCE, 0, 0));
+            }
+        }
+    }
+
+    /// A line that is wrong, mostly made from one that is not.
+    fn fault(&mut self, rng: &mut Rng, kind: Fault) {
+        let model = self.model();
+        let request = model
+            .allowed(rng, false)
+            .unwrap_or_else(|| random_request(rng, model.n()));
+        let good = line_of(model.words(), request);
+        self.write(&fault(rng, kind, &good));
+    }
+
+    /// A whole run: busy, then to its end.
+    pub fn whole_run(mut self, rng: &mut Rng, lines: usize, mix: Mix) -> Vec<u8> {
+        let busy_lines = lines * (20 + rng.below(60)) / 100;
+        self.guided(rng, busy_lines, mix, false);
+        self.end(rng, lines, mix)
+    }
+
+    /// Winding down with few random requests, so that the run comes to its end; every kind
+    /// of step once more; the announcement, and requests after it.
+    pub fn end(mut self, rng: &mut Rng, lines: usize, mix: Mix) -> Vec<u8> {
+        let random = mix.random / 4;
+        let enough = self.lines() + 2 * lines + 1_000;
+        self.guided(rng, enough, Mix { random, ..mix }, true);
+        for kind in 1..=ANNOUNCE {
+            let i = self.model().announcer();
+            let j = rng.below(self.model().n());
+            self.request(Request::new(kind, i, j));
+        }
+        for _ in 0..rng.below(12) {
+            let request = self.model().tempting(rng);
+            self.request(request);
+        }
+        self.log
+    }
+}
+
+fn allowed(rng: &mut Rng, model: &dyn Model, mix: Mix, winding_down: bool) -> Option<Request> {
+    let no_sends = winding_down || model.messages() >= mix.messages;
+    model.allowed(rng, no_sends)
+}
+
+fn push_list(line: &mut Vec<u8>, word: &str, list: &[usize]) {
+    line.extend_from_slice(word.as_bytes());
+    for i in list {
+        write!(line, " {i}").expect("writing to memory");
+    }
+    line.push(b')');
+}
+
+fn line_of(words: &Words, request: Request) -> Vec<u8> {
+    let (word, count) = words[request.kind - 1];
+    let mut line = format!("({word}").into_bytes();
+    for number in [request.i, request.j].iter().take(count) {
+        write!(line, " {number}").expect("writing to memory");
+    }
+    line.extend_from_slice(b")\n");
+    line
+}
+
+/// Any kind, with numbers that are mostly below `n`.
+fn random_request(rng: &mut Rng, n: usize) -> Request {
+    let kind = 1 + rng.below(6);
+    Request::new(kind, random_number(rng, n), random_number(rng, n))
+}
+
+fn random_number(rng: &mut Rng, n: usize) -> usize {
+    match rng.below(40) {
+        0 => n,
+        1 => rng.pick(&[n + 1, 15, 16, 95, 96, 99, 100, 255, 256, 65_535, 99_999]),
+        _ => rng.below(n),
+    }
+}

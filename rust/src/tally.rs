@@ -1,0 +1,418 @@
+//! What was met in the logs that were compared: the answers by their numbers, and steps
+//! that one condition of a rule decides alone, by the second implementation's states.
+
+use crate::log::{Log, Run, LINE_BYTES};
+use crate::report::Report;
+use crate::request::{Request, ANNOUNCE, LEAVE, PASS, PROBE, TAKE};
+use crate::ring::Ring;
+use crate::tree::Tree;
+
+/// Numbers of answers: 0 is an accepted line, 1 to 12 are the refusals.
+const ANSWERS: usize = 13;
+/// Kinds of steps, and 0 for none.
+const KINDS: usize = 7;
+
+/// The refusals that a step of a log can meet. The others cannot come: 1 and 2, since
+/// they are a start's; 3, since a run keeps its state sound; 5, since each word has a
+/// kind; 9, since it needs 1,000,000 accepted sends before it and a log has at most
+/// 999,999 lines after its first; 11 and 12, since a log has no driver and the text of
+/// the tree always has room.
+const OF_STEPS: [usize; 5] = [4, 6, 7, 8, 10];
+const NOT_A_FORM: usize = 10;
+
+/// What is asked of the gate's logs.
+const LEAST_ACCEPTED: usize = 10_000;
+const LEAST_REFUSED: usize = 1_000;
+const LEAST_STARTS: usize = 50;
+const LEAST_CAUSES: usize = 10;
+const LEAST_ANNOUNCED: usize = 200;
+const LEAST_ANNOUNCED_IN_ALL: usize = 500;
+const LEAST_DECIDED: usize = 50;
+
+/// The lines of a log, each with its byte 10 if it has one.
+pub fn split(bytes: &[u8]) -> impl Iterator<Item = &[u8]> {
+    bytes.split_inclusive(|&byte| byte == b'\n')
+}
+
+/// The number of an answer: `(ok LINE)` is 0, `(no LINE NUMBER)` its last number.
+fn number_of(answer: &[u8]) -> usize {
+    if answer.starts_with(b"(ok ") {
+        return 0;
+    }
+    let last = answer.rsplit(|&byte| byte == b' ').next();
+    let digits = last.unwrap_or_default().iter();
+    digits
+        .filter(|byte| byte.is_ascii_digit())
+        .fold(0, |value, digit| 10 * value + usize::from(digit - b'0'))
+}
+
+/// The place of the only truth, if there is one alone.
+fn only(truths: &[bool]) -> Option<usize> {
+    let mut places = (0..truths.len()).filter(|&k| truths[k]);
+    places.next().filter(|_| places.next().is_none())
+}
+
+/// Counts of what one condition decides alone, by the conditions' names.
+struct Decided<const K: usize> {
+    names: [&'static str; K],
+    counts: [usize; K],
+}
+
+impl<const K: usize> Decided<K> {
+    fn new(names: [&'static str; K]) -> Self {
+        Self {
+            names,
+            counts: [0; K],
+        }
+    }
+
+    fn count(&mut self, conditions: [bool; K]) {
+        if let Some(place) = only(&conditions) {
+            self.counts[place] += 1;
+        }
+    }
+
+    fn report(&self, report: &mut Report) {
+        for (name, &count) in self.names.iter().zip(&self.counts) {
+            report.at_least(*name, count, LEAST_DECIDED);
+        }
+    }
+}
+
+/// The answers to first lines.
+#[derive(Default)]
+struct Starts {
+    accepted: usize,
+    ring: [usize; ANSWERS],
+    tree: [usize; ANSWERS],
+    no_input: usize,
+    no_end: usize,
+    too_long: usize,
+    no_form: usize,
+}
+
+impl Starts {
+    fn count(&mut self, line: &[u8], answer: usize) {
+        if answer == 0 {
+            self.accepted += 1;
+        } else if answer != NOT_A_FORM && line.starts_with(b"(ring ") {
+            self.ring[answer] += 1;
+        } else if answer != NOT_A_FORM {
+            self.tree[answer] += 1;
+        } else if line.is_empty() {
+            self.no_input += 1;
+        } else if line.len() > LINE_BYTES {
+            self.too_long += 1;
+        } else if !line.ends_with(b"\n") {
+            self.no_end += 1;
+        } else {
+            self.no_form += 1;
+        }
+    }
+
+    fn report(&self, report: &mut Report) {
+        report.told("first lines accepted", self.accepted);
+        for (name, counts) in [("ring", &self.ring), ("tree", &self.tree)] {
+            report.at_least(
+                format!("first lines refused with 1: a {name}'s number of nodes"),
+                counts[1],
+                LEAST_STARTS,
+            );
+            report.at_least(
+                format!("first lines refused with 6: a node of a {name}"),
+                counts[6],
+                LEAST_STARTS,
+            );
+        }
+        for (name, count) in [
+            ("no input", self.no_input),
+            ("too long", self.too_long),
+            ("no byte 10", self.no_end),
+            ("no form", self.no_form),
+        ] {
+            let name = format!("first lines refused with 10: {name}");
+            report.at_least(name, count, LEAST_CAUSES);
+        }
+        let in_all = self.no_input + self.too_long + self.no_end + self.no_form;
+        report.at_least("first lines refused with 10 in all", in_all, LEAST_STARTS);
+    }
+}
+
+/// The answers to one detector's steps.
+struct Steps {
+    name: &'static str,
+    accepted: [usize; KINDS],
+    refused: [usize; ANSWERS],
+}
+
+impl Steps {
+    fn new(name: &'static str) -> Self {
+        Self {
+            name,
+            accepted: [0; KINDS],
+            refused: [0; ANSWERS],
+        }
+    }
+
+    fn count(&mut self, kind: usize, answer: usize) {
+        if answer == 0 {
+            self.accepted[kind] += 1;
+        } else {
+            self.refused[answer] += 1;
+        }
+    }
+
+    fn accepted(&self) -> usize {
+        self.accepted.iter().sum()
+    }
+
+    fn answered(&self) -> usize {
+        self.accepted() + self.refused.iter().sum::<usize>()
+    }
+
+    fn report(&self, report: &mut Report) {
+        let Self { name, .. } = self;
+        for kind in 1..ANNOUNCE {
+            let accepted = self.accepted[kind];
+            report.at_least(
+                format!("{name}: accepted steps of kind {kind}"),
+                accepted,
+                LEAST_ACCEPTED,
+            );
+        }
+        // A log is announced once at most.
+        let announced = self.accepted[ANNOUNCE];
+        report.at_least(
+            format!("{name}: logs announced"),
+            announced,
+            LEAST_ANNOUNCED,
+        );
+        for number in OF_STEPS {
+            report.at_least(
+                format!("{name}: steps refused with {number}"),
+                self.refused[number],
+                LEAST_REFUSED,
+            );
+        }
+        let others = (0..ANSWERS).filter(|number| !OF_STEPS.contains(number));
+        report.at_most(
+            format!("{name}: steps refused with another number"),
+            others.map(|number| self.refused[number]).sum(),
+            0,
+        );
+    }
+}
+
+/// The ring's rules, condition by condition.
+struct RingCases {
+    announce: Decided<5>,
+    probe: Decided<3>,
+    others: Decided<4>,
+}
+
+impl RingCases {
+    fn new() -> Self {
+        Self {
+            announce: Decided::new([
+                "ring: announce refused only since the token is away",
+                "ring: announce refused only since the token is black",
+                "ring: announce refused only since node 0 is black",
+                "ring: announce refused only since q + counter is not 0",
+                "ring: announce refused only since node 0 is active",
+            ]),
+            probe: Decided::new([
+                "ring: probe accepted only since the token is black",
+                "ring: probe accepted only since node 0 is black",
+                "ring: probe accepted only since q + counter is above 0",
+            ]),
+            others: Decided::new([
+                "ring: announce refused while not quiet, the token at node 0",
+                "ring: probe refused at node 0",
+                "ring: pass by a black node of a white token",
+                "ring: take by a node that the token has passed, under way",
+            ]),
+        }
+    }
+
+    fn count(&mut self, ring: &Ring, request: Request, accepted: bool) {
+        let (token, sum) = (ring.token, ring.token.q + ring.counter(0));
+        let home = token.pos == 0;
+        let node_black = ring.is_black(0);
+        match request.kind {
+            ANNOUNCE if !accepted => {
+                let active = ring.active[0];
+                self.announce
+                    .count([!home, token.black, node_black, sum != 0, active]);
+                let quiet = ring.in_transit() == 0 && !ring.active.contains(&true);
+                self.others.count([home && !quiet, false, false, false]);
+            }
+            PROBE if accepted => self.probe.count([token.black, node_black, sum > 0]),
+            PROBE => self.others.count([false, home, false, false]),
+            PASS if accepted => {
+                let blackens = !token.black && ring.is_black(request.i);
+                self.others.count([false, false, blackens, false]);
+            }
+            TAKE if accepted => {
+                let behind = !home && request.i > token.pos;
+                self.others.count([false, false, false, behind]);
+            }
+            _ => {}
+        }
+    }
+
+    fn report(&self, report: &mut Report) {
+        self.announce.report(report);
+        self.probe.report(report);
+        self.others.report(report);
+    }
+}
+
+/// The tree's rules, condition by condition.
+struct TreeCases {
+    announce: Decided<2>,
+    leave: Decided<3>,
+    take: Decided<2>,
+}
+
+impl TreeCases {
+    fn new() -> Self {
+        Self {
+            announce: Decided::new([
+                "tree: announce refused only since the root is active",
+                "tree: announce refused only since the root is unacknowledged",
+            ]),
+            leave: Decided::new([
+                "tree: leave refused only since the node is the root",
+                "tree: leave refused only since the node is active",
+                "tree: leave refused only since the node is unacknowledged",
+            ]),
+            take: Decided::new([
+                "tree: take that engages its node",
+                "tree: take that is acknowledged at once",
+            ]),
+        }
+    }
+
+    fn count(&mut self, tree: &Tree, request: Request, accepted: bool) {
+        let (root, i) = (tree.root, request.i);
+        match request.kind {
+            ANNOUNCE if !accepted => self
+                .announce
+                .count([tree.active[root], tree.unacked[root] > 0]),
+            LEAVE if !accepted && i < tree.n && tree.is_engaged(i) => {
+                self.leave
+                    .count([i == root, tree.active[i], tree.unacked[i] > 0])
+            }
+            TAKE if accepted => self.take.count([!tree.is_engaged(i), tree.is_engaged(i)]),
+            _ => {}
+        }
+    }
+
+    fn report(&self, report: &mut Report) {
+        self.announce.report(report);
+        self.leave.report(report);
+        self.take.report(report);
+    }
+}
+
+/// All that was met.
+pub struct Tally {
+    logs: usize,
+    unread: usize,
+    starts: Starts,
+    ring: Steps,
+    tree: Steps,
+    ring_cases: RingCases,
+    tree_cases: TreeCases,
+}
+
+impl Default for Tally {
+    fn default() -> Self {
+        Self {
+            logs: 0,
+            unread: 0,
+            starts: Starts::default(),
+            ring: Steps::new("ring"),
+            tree: Steps::new("tree"),
+            ring_cases: RingCases::new(),
+            tree_cases: TreeCases::new(),
+        }
+    }
+}
+
+impl Tally {
+    /// Counts a log and its answers, which are those of the second implementation.
+    pub fn count(&mut self, input: &[u8], output: &[u8]) {
+        let mut log = Log::new();
+        let mut answers = split(output).map(number_of);
+        self.logs += 1;
+        if input.is_empty() {
+            self.starts.count(input, NOT_A_FORM);
+        }
+        for line in split(input) {
+            if log.is_over() {
+                self.unread += 1;
+                continue;
+            }
+            let answer = answers.next().expect("an answer to each line that is read");
+            self.count_line(log.run(), line, answer);
+            log.feed(line, &mut Vec::new());
+        }
+    }
+
+    fn count_line(&mut self, run: &Run, line: &[u8], answer: usize) {
+        let request = run.request(line).ok();
+        let kind = request.map_or(0, |request| request.kind);
+        let accepted = answer == 0;
+        match run {
+            Run::Unstarted | Run::Refused => self.starts.count(line, answer),
+            Run::Ring(run) => {
+                self.ring.count(kind, answer);
+                if let Some(request) = request.filter(|_| !run.ring.closed) {
+                    self.ring_cases.count(&run.ring, request, accepted);
+                }
+            }
+            Run::Tree(tree) => {
+                self.tree.count(kind, answer);
+                if let Some(request) = request.filter(|_| !tree.closed) {
+                    self.tree_cases.count(tree, request, accepted);
+                }
+            }
+        }
+    }
+
+    /// Lines after a first one that were answered.
+    fn steps(&self) -> usize {
+        self.ring.answered() + self.tree.answered()
+    }
+
+    /// Of the lines after a first one, at least half are accepted and at most a tenth no forms.
+    pub fn report_shares(&self, logs: &str, report: &mut Report) {
+        let steps = self.steps();
+        let accepted = self.ring.accepted() + self.tree.accepted();
+        let no_forms = self.ring.refused[NOT_A_FORM] + self.tree.refused[NOT_A_FORM];
+        report.told(format!("{logs}"), self.logs);
+        report.told(format!("{logs}: lines answered after the first"), steps);
+        report.at_least(
+            format!("{logs}: accepted steps"),
+            accepted,
+            steps.div_ceil(2),
+        );
+        report.at_most(
+            format!("{logs}: lines that are no form"),
+            no_forms,
+            steps / 10,
+        );
+        report.told(format!("{logs}: lines past what is read"), self.unread);
+    }
+
+    pub fn report(&self, report: &mut Report) {
+        self.starts.report(report);
+        let announced = self.ring.accepted[ANNOUNCE] + self.tree.accepted[ANNOUNCE];
+        report.at_least("logs announced", announced, LEAST_ANNOUNCED_IN_ALL);
+        self.ring.report(report);
+        self.ring_cases.report(report);
+        self.tree.report(report);
+        self.tree_cases.report(report);
+    }
+}
