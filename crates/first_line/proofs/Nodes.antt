@@ -13,7 +13,7 @@ use Rattle.decimal.specs.Bytes.{bytes}
 use Rattle.decimal.specs.Text.{decimal}
 use Rattle.decimal.specs.Number.{digitB}
 use Rattle.decimal.proofs.Cases.{take-head, first-of}
-use Rattle.forms.specs.Form.{numbers, Small, Ascending}
+use Rattle.forms.specs.Form.{spacedNumbers, Small, Ascending}
 use Rattle.forms.specs.Read.{spacedOf, Read, read, other}
 use Rattle.forms.proofs.Arguments.{spaced-sound, spaced-found}
 use Rattle.first_line.specs.declared.Marks.{Marks}
@@ -89,7 +89,7 @@ module _ {s : List ℕ} {bit : ℕ} {flags : List ℕ} {top low at : ℕ} {whole
 
 -- 3. what is read stands there
 abbrev pub Listed : List ℕ → ℕ → ℕ → Read (List ℕ) → Type 0
-Listed s low at (read ks e) = Ascending low ks × (drop at s ≡ numbers ks ++ drop e s)
+Listed s low at (read ks e) = Ascending low ks × (drop at s ≡ spacedNumbers ks ++ drop e s)
 Listed s low at other = Unit {0}
 
 cons-listed : (s : List ℕ) (low at k p : ℕ) → low ≤ k → Small k → drop at s ≡ bytes " " ++ (decimal k ++ drop p s)
@@ -99,7 +99,7 @@ cons-listed s low at k p lo small t (read ks e) h = (
   (lo, small, h .0),
   t
       ∙ ap (λ (l : List ℕ). 32 ∷ l)
-      (ap (λ (l : List ℕ). decimal k ++ l) (h .1) ∙ sym (append-assoc (decimal k) (numbers ks) (drop e s))),
+      (ap (λ (l : List ℕ). decimal k ++ l) (h .1) ∙ sym (append-assoc (decimal k) (spacedNumbers ks) (drop e s))),
 )
 
 low-by : (s : List ℕ) (low at k p : ℕ) → Small k → drop at s ≡ bytes " " ++ (decimal k ++ drop p s)
@@ -130,32 +130,32 @@ pub list-sound : (s : List ℕ) (at : ℕ) → Listed s 0 at (entriesAt s at)
 list-sound s at = entries-listed (length s + 1) s 0 at
 
 -- 4. what stands there is read
-pub no-digit : (ks u : List ℕ) → digitB (getD u 0 0) ≡ false → digitB (getD (numbers ks ++ u) 0 0) ≡ false
+pub no-digit : (ks u : List ℕ) → digitB (getD u 0 0) ≡ false → digitB (getD (spacedNumbers ks ++ u) 0 0) ≡ false
 no-digit [] u h = h
 no-digit (k ∷ ks) u h = refl
 
 entries-found : (s u : List ℕ) → (getD u 0 0 ≡ 32 → ⊥) → digitB (getD u 0 0) ≡ false
-    → (ks : List ℕ) (low at fuel : ℕ) → length ks < fuel → Ascending low ks → drop at s ≡ numbers ks ++ u
+    → (ks : List ℕ) (low at fuel : ℕ) → length ks < fuel → Ascending low ks → drop at s ≡ spacedNumbers ks ++ u
     → (e : ℕ) × (entriesOf fuel s low at ≡ read ks e) × (drop e s ≡ u)
 entries-found s u b d [] low at fuel n a h =
     (at, no-space s low at fuel (omega arith) (λ e. b (sym (first-of s u at h) ∙ e)), h)
 entries-found s u b d (k ∷ ks) low at fuel n a h =
     let z : 0 < fuel = omega arith in
     let few : length ks < fuel - 1 = omega arith in
-    let t : drop at s ≡ bytes " " ++ (decimal k ++ (numbers ks ++ u)) = h ∙ ap (λ (l : List ℕ). 32 ∷ l) (append-assoc (decimal k) (numbers ks) u) in
-    let f = spaced-found s at k (numbers ks ++ u) (a .1) t (no-digit ks u d) in
+    let t : drop at s ≡ bytes " " ++ (decimal k ++ (spacedNumbers ks ++ u)) = h ∙ ap (λ (l : List ℕ). 32 ∷ l) (append-assoc (decimal k) (spacedNumbers ks) u) in
+    let f = spaced-found s at k (spacedNumbers ks ++ u) (a .1) t (no-digit ks u d) in
     let p = at + 1 + length (decimal k) in
     let ih = entries-found s u b d ks (k + 1) p (fuel - 1) few (a .2) (f .1) in
-    let x = take-head s at 32 (decimal k ++ (numbers ks ++ u)) t .0 in
+    let x = take-head s at 32 (decimal k ++ (spacedNumbers ks ++ u)) t .0 in
     (ih .0, one-entry s low at fuel z x k p (f .0) (a .0) ∙ ap (consOf k) (ih .1), ih .2)
 
-numbers-long : (ks : List ℕ) → length ks ≤ length (numbers ks)
+numbers-long : (ks : List ℕ) → length ks ≤ length (spacedNumbers ks)
 numbers-long [] = omega arith
 numbers-long (k ∷ ks) = simp length-append (omega (arith, numbers-long ks))
 
 pub list-found : (s : List ℕ) (at : ℕ) (ks u : List ℕ) → (getD u 0 0 ≡ 32 → ⊥) → digitB (getD u 0 0) ≡ false → Ascending 0 ks
-    → drop at s ≡ numbers ks ++ u → (e : ℕ) × (entriesAt s at ≡ read ks e) × (drop e s ≡ u)
+    → drop at s ≡ spacedNumbers ks ++ u → (e : ℕ) × (entriesAt s at ≡ read ks e) × (drop e s ≡ u)
 list-found s at ks u b d a h =
     let few : length ks < length s + 1 =
-    omega (arith, numbers-long ks, ap length h, length-drop at s, length-append (numbers ks) u) in
+    omega (arith, numbers-long ks, ap length h, length-drop at s, length-append (spacedNumbers ks) u) in
     entries-found s u b d ks 0 at (length s + 1) few a h

@@ -16,7 +16,7 @@ use Rattle.decimal.specs.Word.{starts}
 use Rattle.decimal.specs.Number.{digitB}
 use Rattle.decimal.proofs.Cases.{advance}
 use Rattle.decimal.proofs.Words.{word-sound, word-back, word-in}
-use Rattle.forms.specs.Form.{numbers, formText, Small, Ascending, SmallForm, Says, line, SaysAt}
+use Rattle.forms.specs.Form.{spacedNumbers, formText, Small, Ascending, SmallForm, Says, line, SaysAt}
 use Rattle.forms.specs.Read.{spacedOf, Read, read, other}
 use Rattle.forms.proofs.Arguments.{spaced-sound, spaced-found, place}
 use Rattle.forms.proofs.Lines.{form-line, form-some, line-rest}
@@ -32,10 +32,10 @@ abbrev ringTo : ℕ → List ℕ → List ℕ
 ringTo n u = bytes "(ring " ++ (decimal n ++ u)
 
 abbrev activeTo : ℕ → List ℕ → List ℕ → List ℕ
-activeTo n a u = ringTo n (bytes " (active" ++ (numbers a ++ u))
+activeTo n a u = ringTo n (bytes " (active" ++ (spacedNumbers a ++ u))
 
 abbrev blackTo : ℕ → List ℕ → List ℕ → List ℕ → List ℕ
-blackTo n a b u = activeTo n a (bytes ") (black" ++ (numbers b ++ u))
+blackTo n a b u = activeTo n a (bytes ") (black" ++ (spacedNumbers b ++ u))
 
 abbrev treeTo : ℕ → List ℕ → List ℕ
 treeTo n u = bytes "(tree " ++ (decimal n ++ u)
@@ -159,8 +159,8 @@ module _ (s : List ℕ) (at : ℕ) where
   unfolding ringAfter listsAt activeAt blackAt starts
   lists-found n a b u small ha hb h =
       let E = bytes "))\n" ++ u in
-      let B = numbers b ++ E in
-      let A = numbers a ++ (bytes ") (black" ++ B) in
+      let B = spacedNumbers b ++ E in
+      let A = spacedNumbers a ++ (bytes ") (black" ++ B) in
       let r = ring-found n (bytes " (active" ++ A) small refl h in
       let p = r .0 in
       let off : starts (bytes ")\n") (drop p s) ≡ false = ap (starts (bytes ")\n")) (r .2) in

@@ -19,7 +19,7 @@ use Rattle.decimal.proofs.Decimal.{decimal-five}
 use Rattle.decimal.proofs.Numbers.{no-number, short-found, short-sound}
 use Rattle.forms.specs.declared.Args.the-variants.{Found, Bad}
 use Rattle.forms.specs.Form.{Small}
-use Rattle.forms.specs.Read.{spacedOf, closedOf, oneOf, secondOf, twoOf, Count, none, one, two, argsOf}
+use Rattle.forms.specs.Read.{spacedOf, closedOf, oneOf, secondOf, twoOf, Arity, none, one, two, argsOf}
 
 -- 1. a space and a number
 spaced-by : (s : List ℕ) (at : ℕ) (t : Bool) → eqb (getD s at 0) 32 ≡ t → (n e : ℕ) → cond t (shortOf s (at + 1)) Wrong ≡ Value n e
@@ -49,18 +49,18 @@ spaced-found s at n u h p k =
 abbrev pub closing : List ℕ
 closing = bytes ")\n"
 
-abbrev pub argsText : Count → ℕ → ℕ → List ℕ
+abbrev pub argsText : Arity → ℕ → ℕ → List ℕ
 argsText none i j = closing
 argsText one i j = bytes " " ++ (decimal i ++ closing)
 argsText two i j = bytes " " ++ (decimal i ++ (bytes " " ++ (decimal j ++ closing)))
 
 -- numbers of at most five digits, and 0 for those that are not there
-abbrev pub SmallArgs : Count → ℕ → ℕ → Type 0
+abbrev pub SmallArgs : Arity → ℕ → ℕ → Type 0
 SmallArgs none i j = (i ≡ 0) × (j ≡ 0)
 SmallArgs one i j = Small i × (j ≡ 0)
 SmallArgs two i j = Small i × Small j
 
-pub args-short : (c : Count) (i j : ℕ) → SmallArgs c i j → length (argsText c i j) ≤ 14
+pub args-short : (c : Arity) (i j : ℕ) → SmallArgs c i j → length (argsText c i j) ≤ 14
 args-short none i j h = omega arith
 args-short one i j h = simp length-append (omega (arith, decimal-five i (h .0)))
 args-short two i j h = simp length-append (omega (arith, decimal-five i (h .0), decimal-five j (h .1)))
@@ -122,14 +122,14 @@ two-sound s at (Value n p) q i j e h =
     let small : i ≤ 99999 = omega (arith, r .1, c .0) in
     ((rw (c .0) at t, c .1 .1), (small, c .2))
 
-args-standing : (c : Count) (s : List ℕ) (at i j e : ℕ) → argsOf c s at ≡ Found i j e → Standing s at (argsText c i j) e × SmallArgs c i j
+args-standing : (c : Arity) (s : List ℕ) (at i j e : ℕ) → argsOf c s at ≡ Found i j e → Standing s at (argsText c i j) e × SmallArgs c i j
 args-standing none s at i j e h =
     let c = closed-sound s at 0 0 i j e h in
     (c .2, (sym (c .0), sym (c .1)))
 args-standing one s at i j e h = one-sound s at (spacedOf s at) refl i j e h
 args-standing two s at i j e h = two-sound s at (spacedOf s at) refl i j e h
 
-args-some : (c : Count) (i j : ℕ) → 0 < length (argsText c i j)
+args-some : (c : Arity) (i j : ℕ) → 0 < length (argsText c i j)
 args-some none i j = omega arith
 args-some one i j = omega arith
 args-some two i j = omega arith
@@ -138,13 +138,13 @@ args-some two i j = omega arith
 pub place : (s t : List ℕ) (at e : ℕ) → drop at s ≡ t ++ drop e s → e ≤ length s → 0 < length t → e ≡ at + length t
 place s t at e h k n = omega (arith, ap length h, length-drop at s, length-append t (drop e s), length-drop e s)
 
-pub record Read-args (c : Count) (s : List ℕ) (at i j e : ℕ) : Type 0 where
+pub record Read-args (c : Arity) (s : List ℕ) (at i j e : ℕ) : Type 0 where
   pub text : drop at s ≡ argsText c i j ++ drop e s
   pub ends : e ≡ at + length (argsText c i j)
   pub inside : e ≤ length s
   pub small : SmallArgs c i j
 
-pub args-sound : (c : Count) (s : List ℕ) (at i j e : ℕ) → argsOf c s at ≡ Found i j e → Read-args c s at i j e
+pub args-sound : (c : Arity) (s : List ℕ) (at i j e : ℕ) → argsOf c s at ≡ Found i j e → Read-args c s at i j e
 args-sound c s at i j e h =
     let r = args-standing c s at i j e h in
     record {
@@ -159,7 +159,7 @@ closed-found : (s : List ℕ) (at i j : ℕ) (u : List ℕ) → drop at s ≡ cl
 unfolding closedOf
 closed-found s at i j u h = rw (word-back s at closing u h)
 
-pub args-found : (c : Count) (s : List ℕ) (at i j : ℕ) (u : List ℕ) → SmallArgs c i j → drop at s ≡ argsText c i j ++ u
+pub args-found : (c : Arity) (s : List ℕ) (at i j : ℕ) (u : List ℕ) → SmallArgs c i j → drop at s ≡ argsText c i j ++ u
     → argsOf c s at ≡ Found i j (at + length (argsText c i j))
 unfolding oneOf secondOf twoOf
 args-found none s at i j u h p = rw (h .0, h .1) (closed-found s at 0 0 u p)

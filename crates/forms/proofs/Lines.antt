@@ -12,7 +12,7 @@ use borrow.Author.Tests.{ne-eqb}
 use Rattle.decimal.specs.Bytes.{bytes}
 use Rattle.decimal.specs.Text.{decimal}
 use Rattle.decimal.proofs.Numbers.{Digits, decimal-digits, digit-low}
-use Rattle.forms.specs.Form.{Form, bareRing, ringWith, treeOf, send, takeOne, takeFrom, idle, probe, pass, ack, leave, announce, numbers, formText, Says, line, SaysAt}
+use Rattle.forms.specs.Form.{Form, bareRing, ringWith, treeOf, send, takeOne, takeFrom, idle, probe, pass, ack, leave, announce, spacedNumbers, formText, Says, line, SaysAt}
 
 line-digits : (d l : List ℕ) → Digits d → line (d ++ l) ≡ d ++ line l
 unfolding line
@@ -24,23 +24,23 @@ line-digits (b ∷ d) l h =
 line-decimal : (n : ℕ) (l : List ℕ) → line (decimal n ++ l) ≡ decimal n ++ line l
 line-decimal n l = line-digits (decimal n) l (decimal-digits n)
 
-line-numbers : (ks l : List ℕ) → line (numbers ks ++ l) ≡ numbers ks ++ line l
+line-numbers : (ks l : List ℕ) → line (spacedNumbers ks ++ l) ≡ spacedNumbers ks ++ line l
 unfolding line
 line-numbers [] l = refl
 line-numbers (k ∷ ks) l =
     ap (λ (t : List ℕ). 32 ∷ t)
-    (ap line (append-assoc (decimal k) (numbers ks) l)
-    ∙ (line-decimal k (numbers ks ++ l)
-    ∙ (ap (λ (t : List ℕ). decimal k ++ t) (line-numbers ks l) ∙ sym (append-assoc (decimal k) (numbers ks) (line l)))))
+    (ap line (append-assoc (decimal k) (spacedNumbers ks) l)
+    ∙ (line-decimal k (spacedNumbers ks ++ l)
+    ∙ (ap (λ (t : List ℕ). decimal k ++ t) (line-numbers ks l) ∙ sym (append-assoc (decimal k) (spacedNumbers ks) (line l)))))
 
 -- the line of a number and what follows
 after : (n : ℕ) (l u t : List ℕ) → line (l ++ u) ≡ t → line ((decimal n ++ l) ++ u) ≡ decimal n ++ t
 after n l u t h =
     ap line (append-assoc (decimal n) l u) ∙ (line-decimal n (l ++ u) ∙ ap (λ (x : List ℕ). decimal n ++ x) h)
 
-after-all : (ks l u t : List ℕ) → line (l ++ u) ≡ t → line ((numbers ks ++ l) ++ u) ≡ numbers ks ++ t
+after-all : (ks l u t : List ℕ) → line (l ++ u) ≡ t → line ((spacedNumbers ks ++ l) ++ u) ≡ spacedNumbers ks ++ t
 after-all ks l u t h =
-    ap line (append-assoc (numbers ks) l u) ∙ (line-numbers ks (l ++ u) ∙ ap (λ (x : List ℕ). numbers ks ++ x) h)
+    ap line (append-assoc (spacedNumbers ks) l u) ∙ (line-numbers ks (l ++ u) ∙ ap (λ (x : List ℕ). spacedNumbers ks ++ x) h)
 
 pub form-line : (f : Form) (u : List ℕ) → line (formText f ++ u) ≡ formText f
 unfolding line

@@ -13,7 +13,7 @@ use Rattle.decimal.proofs.Words.{word-sound, word-back}
 use Rattle.forms.specs.declared.Args.{Args}
 use Rattle.forms.specs.declared.Args.the-variants.{Found, Bad}
 use Rattle.forms.specs.Form.{Form, formText, SmallForm, Valid, Says, line, SaysAt}
-use Rattle.forms.specs.Read.{argsOf, Read, read, other, madeOf, Shape, readBy}
+use Rattle.forms.specs.Read.{argsOf, Read, read, other, madeOf, StepShape, readBy}
 use Rattle.forms.proofs.Arguments.{argsText, SmallArgs, args-short, args-sound, args-found}
 use Rattle.forms.proofs.Lines.{form-line, form-some, line-rest}
 
@@ -34,25 +34,25 @@ clash-off (x ∷ v) [] u h = let z : false ≡ true = h in cc
 clash-off (x ∷ v) (y ∷ w) u h = clash-by (eqb y x) (clash v w) (starts v (w ++ u)) h (clash-off v w u)
 
 -- a shape of the table
-pub data In {A : Type 0} (h : Shape A) : List (Shape A) → Type 0 where
-  here : {hs : List (Shape A)} → In h (h ∷ hs)
-  there : {g : Shape A} {hs : List (Shape A)} → In h hs → In h (g ∷ hs)
+pub data In {A : Type 0} (h : StepShape A) : List (StepShape A) → Type 0 where
+  here : {hs : List (StepShape A)} → In h (h ∷ hs)
+  there : {g : StepShape A} {hs : List (StepShape A)} → In h hs → In h (g ∷ hs)
 
-abbrev clashes : {A : Type 0} → List ℕ → List (Shape A) → Bool
+abbrev clashes : {A : Type 0} → List ℕ → List (StepShape A) → Bool
 clashes v [] = true
 clashes v (h ∷ hs) = clash v (h .word) && clashes v hs
 
-clashes-in : {A : Type 0} (v : List ℕ) {h : Shape A} {hs : List (Shape A)} → In h hs → clashes v hs ≡ true → clash v (h .word) ≡ true
+clashes-in : {A : Type 0} (v : List ℕ) {h : StepShape A} {hs : List (StepShape A)} → In h hs → clashes v hs ≡ true → clash v (h .word) ≡ true
 clashes-in v {h} (here {hs}) e = both-left (clash v (h .word)) (clashes v hs) e
 clashes-in v (there {g} {hs} m) e = clashes-in v m (both-right (clash v (g .word)) (clashes v hs) e)
 
 -- each word of the table differs from those after it
-abbrev pub apart : {A : Type 0} → List (Shape A) → Bool
+abbrev pub apart : {A : Type 0} → List (StepShape A) → Bool
 apart [] = true
 apart (h ∷ hs) = clashes (h .word) hs && apart hs
 
 -- 2. a form that stands there is read
-pub read-found : {A : Type 0} {h : Shape A} {hs : List (Shape A)} → In h hs → apart hs ≡ true
+pub read-found : {A : Type 0} {h : StepShape A} {hs : List (StepShape A)} → In h hs → apart hs ≡ true
     → (s : List ℕ) (at i j : ℕ) (u : List ℕ) → SmallArgs (h .count) i j → drop at s ≡ h .word ++ (argsText (h .count) i j ++ u)
     → readBy hs s at ≡ read (h .made i j) (at + length (h .word) + length (argsText (h .count) i j))
 unfolding readBy madeOf
@@ -67,16 +67,16 @@ read-found {h = h} (there {g} {hs} m) e s at i j u small p =
 -- 3. what is read stands there
 module _ {A : Type 0} (form : A → Form) where
   -- the shape spells its forms
-  pub record Spells (h : Shape A) : Type 0 where
+  pub record Spells (h : StepShape A) : Type 0 where
     pub short : length (h .word) ≤ 600
     pub spelled : (i j : ℕ) → SmallArgs (h .count) i j → formText (form (h .made i j)) ≡ h .word ++ argsText (h .count) i j
     pub fits : (i j : ℕ) → SmallArgs (h .count) i j → SmallForm (form (h .made i j))
 
-  abbrev pub Spelled : List (Shape A) → Type 0
+  abbrev pub Spelled : List (StepShape A) → Type 0
   Spelled [] = Unit {0}
   Spelled (h ∷ hs) = Spells h × Spelled hs
 
-  spells-in : {h : Shape A} {hs : List (Shape A)} → In h hs → Spelled hs → Spells h
+  spells-in : {h : StepShape A} {hs : List (StepShape A)} → In h hs → Spelled hs → Spells h
   spells-in here p = p .0
   spells-in (there m) p = spells-in m (p .1)
 
@@ -91,7 +91,7 @@ module _ {A : Type 0} (form : A → Form) where
   Sound s at (read a e) = Stood s at a e
   Sound s at other = Unit {0}
 
-  made-sound : (h : Shape A) → Spells h → (s : List ℕ) (at : ℕ) → drop at s ≡ h .word ++ drop (at + length (h .word)) s
+  made-sound : (h : StepShape A) → Spells h → (s : List ℕ) (at : ℕ) → drop at s ≡ h .word ++ drop (at + length (h .word)) s
       → (r : Args) → argsOf (h .count) s (at + length (h .word)) ≡ r → Sound s at (madeOf (h .made) r)
   unfolding madeOf
   made-sound h p s at w Bad q = tt
@@ -113,7 +113,7 @@ module _ {A : Type 0} (form : A → Form) where
   pick-sound s at true a b f g = f refl
   pick-sound s at false a b f g = g
 
-  read-sound : (hs : List (Shape A)) → Spelled hs → (s : List ℕ) (at : ℕ) → Sound s at (readBy hs s at)
+  read-sound : (hs : List (StepShape A)) → Spelled hs → (s : List ℕ) (at : ℕ) → Sound s at (readBy hs s at)
   unfolding readBy
   read-sound [] p s at = tt
   read-sound (h ∷ hs) p s at =
@@ -129,15 +129,15 @@ module _ {A : Type 0} (form : A → Form) where
       rw (p, x) at h
 
   -- 4. exact both ways, if every form is one of the table's
-  pub record Entry (hs : List (Shape A)) (a : A) : Type 0 where
-    pub of : Shape A
+  pub record Entry (hs : List (StepShape A)) (a : A) : Type 0 where
+    pub of : StepShape A
     pub among : In of hs
     pub first : ℕ
     pub second : ℕ
     pub makes : of .made first second ≡ a
     pub needs : SmallForm (form a) → SmallArgs (of .count) first second
 
-  module _ (hs : List (Shape A)) (spelled : Spelled hs) (differ : apart hs ≡ true) (entry : (a : A) → Entry hs a) where
+  module _ (hs : List (StepShape A)) (spelled : Spelled hs) (differ : apart hs ≡ true) (entry : (a : A) → Entry hs a) where
     pub table-stood : (s : List ℕ) (at : ℕ) (a : A) (e : ℕ) → readBy hs s at ≡ read a e → Stood s at a e
     table-stood s at a e h = stood-by s at (readBy hs s at) (read-sound hs spelled s at) a e h
 

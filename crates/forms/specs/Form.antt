@@ -29,15 +29,15 @@ pub data Form : Type 0 where
   announce : Form
 
 -- "one space between items": numbers, each after one space
-abbrev pub numbers : List ℕ → List ℕ
-numbers [] = []
-numbers (k ∷ ks) = bytes " " ++ (decimal k ++ numbers ks)
+abbrev pub spacedNumbers : List ℕ → List ℕ
+spacedNumbers [] = []
+spacedNumbers (k ∷ ks) = bytes " " ++ (decimal k ++ spacedNumbers ks)
 
 -- "One form a line, ending in byte 10": a form's line, with its byte 10
 abbrev pub formText : Form → List ℕ
 formText (bareRing n) = bytes "(ring " ++ (decimal n ++ bytes ")\n")
 formText (ringWith n active black) =
-    bytes "(ring " ++ (decimal n ++ (bytes " (active" ++ (numbers active ++ (bytes ") (black" ++ (numbers black ++ bytes "))\n")))))
+    bytes "(ring " ++ (decimal n ++ (bytes " (active" ++ (spacedNumbers active ++ (bytes ") (black" ++ (spacedNumbers black ++ bytes "))\n")))))
 formText (treeOf n root) = bytes "(tree " ++ (decimal n ++ (bytes " (root " ++ (decimal root ++ bytes "))\n")))
 formText (send i j) = bytes "(send " ++ (decimal i ++ (bytes " " ++ (decimal j ++ bytes ")\n")))
 formText (takeOne i) = bytes "(take " ++ (decimal i ++ bytes ")\n")

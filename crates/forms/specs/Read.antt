@@ -41,13 +41,13 @@ twoOf s (Value i p) = secondOf s i (spacedOf s p)
 twoOf s Wrong = Bad
 
 -- how many numbers follow a word
-pub data Count : Type 0 where
-  none : Count
-  one : Count
-  two : Count
+pub data Arity : Type 0 where
+  none : Arity
+  one : Arity
+  two : Arity
 
 -- so many numbers, and the end of the line
-abbrev pub argsOf : Count → List ℕ → ℕ → Args
+abbrev pub argsOf : Arity → List ℕ → ℕ → Args
 argsOf none s at = closedOf s at 0 0
 argsOf one s at = oneOf s (spacedOf s at)
 argsOf two s at = twoOf s (spacedOf s at)
@@ -62,16 +62,16 @@ madeOf made (Found i j e) = read (made i j) e
 madeOf made Bad = other
 
 -- a kind of step: its word, its numbers, and the step that they make
-pub record Shape (A : Type 0) : Type 0 where
+pub record StepShape (A : Type 0) : Type 0 where
   pub word : List ℕ
-  pub count : Count
+  pub count : Arity
   pub made : ℕ → ℕ → A
 
-abbrev pub shape : {A : Type 0} → List ℕ → Count → (ℕ → ℕ → A) → Shape A
+abbrev pub shape : {A : Type 0} → List ℕ → Arity → (ℕ → ℕ → A) → StepShape A
 shape w c f = record { word = w; count = c; made = f }
 
 -- the first kind whose word stands there decides
-unfoldable pub readBy : {A : Type 0} → List (Shape A) → List ℕ → ℕ → Read A
+unfoldable pub readBy : {A : Type 0} → List (StepShape A) → List ℕ → ℕ → Read A
 readBy [] s at = other
 readBy (h ∷ hs) s at =
     cond (starts (h .word) (drop at s)) (madeOf (h .made) (argsOf (h .count) s (at + length (h .word)))) (readBy hs s at)
@@ -86,7 +86,7 @@ ringKind kind i j =
     (cond (eqb kind 5) (ring.Pass i)
     ring.Announce))))
 
-abbrev pub ringShapes : List (Shape RingStep)
+abbrev pub ringShapes : List (StepShape RingStep)
 ringShapes =
     shape (bytes "(send") two (ringKind 1)
     ∷ shape (bytes "(take") one (ringKind 2)
@@ -106,7 +106,7 @@ treeKind kind i j =
     (cond (eqb kind 5) (tree.Leave i)
     tree.Announce))))
 
-abbrev pub treeShapes : List (Shape TreeStep)
+abbrev pub treeShapes : List (StepShape TreeStep)
 treeShapes =
     shape (bytes "(send") two (treeKind 1)
     ∷ shape (bytes "(take") two (treeKind 2)

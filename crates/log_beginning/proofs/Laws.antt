@@ -70,17 +70,17 @@ module _ (f : First) where
   abbrev pub first-ring : rules.Stage
   first-ring = rules.onRing (ringStart.firstState (f .n) (take (f .n) (f .flags))) 0
 
-  pub no-nodes : f .n ≡ 0 → rules.firstTold line.Ring f ≡ rules.opened (Refused NodeCount) first-ring
+  pub no-nodes : f .n ≡ 0 → rules.firstTold line.Ring f ≡ rules.openedBy (Refused NodeCount) first-ring
   no-nodes h = rw (le-ltb 0 (f .n) (omega arith))
 
-  pub many-nodes : 96 < f .n → rules.firstTold line.Ring f ≡ rules.opened (Refused NodeCount) first-ring
+  pub many-nodes : 96 < f .n → rules.firstTold line.Ring f ≡ rules.openedBy (Refused NodeCount) first-ring
   many-nodes h = rw (lt-ltb 0 (f .n) (omega arith), lt-leb (f .n) 96 h)
 
   module _ (lo : 0 < f .n) (hi : f .n ≤ 96) where
-    pub unknown-node : f .n < f .top → rules.firstTold line.Ring f ≡ rules.opened (Refused UnknownNode) first-ring
+    pub unknown-node : f .n < f .top → rules.firstTold line.Ring f ≡ rules.openedBy (Refused UnknownNode) first-ring
     unknown-node h = rw (lt-ltb 0 (f .n) lo, le-leb (f .n) 96 hi, lt-ltb (f .n) (f .top) h)
 
-    pub good-ring : f .top ≤ f .n → rules.firstTold line.Ring f ≡ rules.opened Accepted first-ring
+    pub good-ring : f .top ≤ f .n → rules.firstTold line.Ring f ≡ rules.openedBy Accepted first-ring
     good-ring h = rw (lt-ltb 0 (f .n) lo, le-leb (f .n) 96 hi, le-ltb (f .n) (f .top) h)
 
     pub flags-fit : Flags (f .flags) → ringLaws.Fits (f .n) (take (f .n) (f .flags))
@@ -131,7 +131,7 @@ module _ (f : First) {a : treeAnswers.Answer} (s : a ≡ treeStart.startOf (f .n
 
   pub no-tree :
       {e : Refusal} {o : Opening} {out out′ : List ℕ} → a .verdict ≡ Refused e
-      → Begins (rules.opened (Refused e) (rules.onTree (treeStart.firstState (f .n) (f .root)))) o out out′
+      → Begins (rules.openedBy (Refused e) (rules.onTree (treeStart.firstState (f .n) (f .root)))) o out out′
       → Begins (rules.firstTold line.Tree f) o out out′
   no-tree v b = rw (sym verdict-is ∙ v) b
 

@@ -10,7 +10,7 @@ use tree::Tree;
 ghost use mathlib.Core.Path.{_≡_};
 ghost use Prim.Native.Nat.{_≤_};
 ghost use lib.ListN.{length};
-ghost use Rattle.log_rules.specs.Answers.{fresh, over, opened, firstTold, lineTold};
+ghost use Rattle.log_rules.specs.Answers.{fresh, over, openedBy, firstTold, lineTold};
 ghost use Rattle.log_beginning.specs.Open.{Begins, Flags};
 
 // What a log has come to: nothing is read yet; a ring's run; a tree's run; or the first line was refused.
@@ -45,7 +45,7 @@ pub fn blank_tree() -> Tree {
 // "After a bad or missing first line the program prints only that refusal"
 pub fn refuse(e: Refusal, out: &mut [u8]) -> Opening
     requires { ⌜ 16 ≤ length (now out) ⌝ }
-    ensures { λ o. ⌜ Begins (opened (Verdict.Refused e) over) o (now (out .entry)) (now (out .exit)) ⌝ }
+    ensures { λ o. ⌜ Begins (openedBy (Verdict.Refused e) over) o (now (out .entry)) (now (out .exit)) ⌝ }
 {
     let at = put_answer(out, 0, 1, Verdict::Refused(e));
     let ring = blank_ring();

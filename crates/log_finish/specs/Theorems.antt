@@ -7,14 +7,11 @@ use mathlib.Core.Path.{_≡_}
 use Rattle.log_state.specs.Feed.{FedFrom, Good, decided, stageOf}
 use Rattle.log_state.specs.declared.Fed.{Fed}
 use Rattle.log_state.specs.declared.Log.{Log}
+use Rattle.log_rules.specs.Lines.{joined}
 use Rattle.log_rules.specs.Output.{outputOf}
 use Rattle.log_rules.specs.Pieces.{heldOf}
 use Rattle.log_finish.specs.Finish.{Finished}
 use Rattle.log_rules.specs.Answers as rules
-
-abbrev pub joined : List (List ℕ) → List ℕ
-joined [] = []
-joined (p ∷ ps) = p ++ joined ps
 
 -- the log l, with its buffer, is fed the pieces one after the other: it comes to l′, and what is written, piece by piece, is `texts`
 pub data Feeds : Log → List ℕ → List (List ℕ) → List ℕ → Log → List ℕ → Type 0 where

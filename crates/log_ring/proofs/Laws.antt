@@ -25,7 +25,7 @@ use Rattle.ring_rules.specs.Answers.{Answer, answerOf, stepOf}
 use Rattle.ring_rules.specs.Rules.{kindOf}
 use Rattle.ring_rules.specs.Soundness.{Sound}
 use Rattle.ring_check.specs.Told.{answer}
-use Rattle.log_ring.specs.Run.{Answered, Fed, Inside, RingWent}
+use Rattle.log_ring.specs.Run.{Inside, LinesFed, RingLineAnswered, RingWent}
 use Rattle.log_ring.specs.declared.RingFed.{RingFed}
 use Rattle.log_ring.specs.declared.RingRun.{RingRun}
 use Rattle.ring_rules.specs.State as rules
@@ -39,7 +39,7 @@ told-short s m k ringLine.NotAForm h = answer-short k (Refused refusals.NotAForm
 
 pub answered-went : (r t : RingRun) (s s′ : rules.State) (piece out out′ : List ℕ) (said : RingLine) (e : ℕ)
     → said ≡ ringAt piece (r .next) → OneLine (line (drop (r .next) piece)) → e ≡ r .next + length (line (drop (r .next) piece))
-    → r .next ≤ length piece → r .lines < lineLimit → Answered r t s s′ said e out out′
+    → r .next ≤ length piece → r .lines < lineLimit → RingLineAnswered r t s s′ said e out out′
     → RingWent r t s s′ piece out out′ × Onward (r .next) (t .next) piece
 answered-went r t s s′ piece out out′ said e is en past inside under a =
     let x = ringTold s (r .moves) (r .lines + 1) said in
@@ -71,7 +71,7 @@ pub step-answered : (r t : RingRun) (s s′ : rules.State) (f : RingStep) (end :
     → (n ≡ cond (isMove f && isAccepted v) 1 0) × (n ≤ 1)
     → t .moves ≡ r .moves + n → t .lines ≡ r .lines + 1 → t .next ≡ end
     → Wrote out (r .at) (answerText (r .lines + 1) v) (t .at) out′
-    → Answered r t s s′ (ringLine.Step f end) end out out′
+    → RingLineAnswered r t s s′ (ringLine.Step f end) end out out′
 step-answered r t s s′ f end out out′ v kind i j n sound few same asked count moves lines past wrote =
     let x = ringRequest f in
     let p : answer v s′ ≡ stepOf s (x .kind) (x .i) (x .j) =
@@ -93,7 +93,7 @@ step-answered r t s s′ f end out out′ v kind i j n sound few same asked coun
 pub formless-answered : (r t : RingRun) (s s′ : rules.State) (end : ℕ) (out out′ : List ℕ) → Sound s → r .moves ≤ r .lines → s′ ≡ s
     → t .moves ≡ r .moves → t .lines ≡ r .lines + 1 → t .next ≡ end
     → Wrote out (r .at) (answerText (r .lines + 1) (Refused refusals.NotAForm)) (t .at) out′
-    → Answered r t s s′ ringLine.NotAForm end out out′
+    → RingLineAnswered r t s s′ ringLine.NotAForm end out out′
 formless-answered r t s s′ end out out′ sound few same moves lines past wrote =
     record {
       stage = rw (same, moves);
@@ -133,7 +133,7 @@ run-none r s piece out f = record {
 pub fed-by : {r t : RingRun} {s₀ s₁ s : rules.State} {piece out out′ : List ℕ} (f : RingFed) → s₀ ≡ s → state (f .ring) ≡ s₁
     → f .moves ≡ t .moves → f .lines ≡ t .lines → f .next ≡ t .next → f .at ≡ t .at
     → RingWent r t s₀ s₁ piece out out′ → NoMore (t .lines) (t .next) piece
-    → Fed s (r .moves) (r .lines) piece (r .next) out (r .at) f out′
+    → LinesFed s (r .moves) (r .lines) piece (r .next) out (r .at) f out′
 fed-by f first last m l n a w no-more = record {
   went = rw (← first, last, m, l, n, a) (w .went);
   sound = subst Sound (sym last) (w .sound);

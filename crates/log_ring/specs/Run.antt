@@ -22,7 +22,7 @@ pub record Ready (r : RingRun) (s : rules.State) (out : List ℕ) : Type 0 where
   pub room : r .at + 16 ≤ length out
 
 -- the next line, of which the recogniser says `said`, is answered by the definitions: t and s′ are the run and its state after it
-pub record Answered (r t : RingRun) (s s′ : rules.State) (said : RingLine) (end : ℕ) (out out′ : List ℕ) : Type 0 where
+pub record RingLineAnswered (r t : RingRun) (s s′ : rules.State) (said : RingLine) (end : ℕ) (out out′ : List ℕ) : Type 0 where
   pub stage : onRing s′ (t .moves) ≡ ringTold s (r .moves) (r .lines + 1) said .stage
   pub wrote : Wrote out (r .at) (ringTold s (r .moves) (r .lines + 1) said .text) (t .at) out′
   pub line : t .lines ≡ r .lines + 1
@@ -48,7 +48,7 @@ pub record RingWent (r t : RingRun) (s s′ : rules.State) (piece out out′ : L
   pub few : t .moves ≤ t .lines
 
 -- all lines of the piece that are whole are answered
-pub record Fed (s : rules.State) (moves lines : ℕ) (piece : List ℕ) (from : ℕ) (out : List ℕ) (at : ℕ) (f : RingFed) (out′ : List ℕ) : Type 0 where
+pub record LinesFed (s : rules.State) (moves lines : ℕ) (piece : List ℕ) (from : ℕ) (out : List ℕ) (at : ℕ) (f : RingFed) (out′ : List ℕ) : Type 0 where
   pub went : Went (onRing s moves) (onRing (state (f .ring)) (f .moves)) lines (f .lines) from (f .next) at (f .at) piece out out′
   pub sound : Sound (state (f .ring))
   pub few : f .moves ≤ f .lines

@@ -20,7 +20,7 @@ ghost use Rattle.ring_check.specs.Whole.{whole};
 ghost use Rattle.ring.specs.View.{state};
 ghost use Rattle.log_text.specs.Wrote.{Wrote};
 ghost use Rattle.log_rules.specs.Pieces.{Onward, NoMore};
-ghost use Rattle.log_ring.specs.Run.{Ready, Answered, Inside, RingWent, Fits, Fed};
+ghost use Rattle.log_ring.specs.Run.{Ready, RingLineAnswered, Inside, RingWent, Fits, LinesFed};
 
 // Where a run stands: the ring beside its columns, the accepted token moves, the lines answered, the index of the next line in the
 // piece, and of the next answer in the buffer.
@@ -106,7 +106,7 @@ fn step_line(
     out: &mut [u8],
 ) -> RingRun
     requires { ⌜ Ready r (whole (r .rest) (now active) (now color) (now sent) (now received) (now pending)) (now out) ⌝ }
-    ensures { λ t. ⌜ Answered r t (whole (r .rest) (now (active .entry)) (now (color .entry)) (now (sent .entry)) (now (received .entry)) (now (pending .entry)))
+    ensures { λ t. ⌜ RingLineAnswered r t (whole (r .rest) (now (active .entry)) (now (color .entry)) (now (sent .entry)) (now (received .entry)) (now (pending .entry)))
         (whole (t .rest) (now (active .exit)) (now (color .exit)) (now (sent .exit)) (now (received .exit)) (now (pending .exit)))
         (RingLine.Step f end) end (now (out .entry)) (now (out .exit)) ⌝ }
 {
@@ -228,7 +228,7 @@ pub fn ring_piece(
     at: usize,
 ) -> RingFed
     requires { ⌜ Fits (state ring) moves lines (now piece) from (now out) at ⌝ }
-    ensures { λ f. ⌜ Fed (state ring) moves lines (now (piece .entry)) from (now (out .entry)) at f (now (out .exit)) ⌝ }
+    ensures { λ f. ⌜ LinesFed (state ring) moves lines (now (piece .entry)) from (now (out .entry)) at f (now (out .exit)) ⌝ }
 {
     let rest = rest_of(ring);
     let mut active = ring.active;

@@ -86,15 +86,15 @@ ringTable f =
     ∷ (ltb (f .n) (f .top) ⟶ UnknownNode)
     ∷ []
 
-abbrev pub opened : Verdict → Stage → Told
-opened Accepted s = record { stage = s; text = answerText 1 Accepted }
-opened (Refused e) s = record { stage = over; text = answerText 1 (Refused e) }
+abbrev pub openedBy : Verdict → Stage → Told
+openedBy Accepted s = record { stage = s; text = answerText 1 Accepted }
+openedBy (Refused e) s = record { stage = over; text = answerText 1 (Refused e) }
 
 -- what a first line says begins the run, or is refused
 abbrev pub firstTold : Kind → First → Told
-firstTold line.Ring f = opened (firstOf (ringTable f)) (onRing (ringStart.firstState (f .n) (take (f .n) (f .flags))) 0)
-firstTold line.Tree f = opened (treeStart.startVerdict (f .n) (f .root)) (onTree (treeStart.firstState (f .n) (f .root)))
-firstTold line.NotAForm f = opened (Refused NotAForm) fresh
+firstTold line.Ring f = openedBy (firstOf (ringTable f)) (onRing (ringStart.firstState (f .n) (take (f .n) (f .flags))) 0)
+firstTold line.Tree f = openedBy (treeStart.startVerdict (f .n) (f .root)) (onTree (treeStart.firstState (f .n) (f .root)))
+firstTold line.NotAForm f = openedBy (Refused NotAForm) fresh
 
 -- the kind number and the node numbers of a step
 abbrev pub ringRequest : RingStep → Request

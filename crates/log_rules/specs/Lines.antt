@@ -17,3 +17,8 @@ lineLimit = 1000000
 -- the lines of a log
 abbrev pub linesOf : List ℕ → List (List ℕ)
 linesOf s = take lineLimit (split [] s)
+
+-- texts one after the other
+abbrev pub joined : List (List ℕ) → List ℕ
+joined [] = []
+joined (t ∷ ts) = t ++ joined ts

@@ -8,7 +8,7 @@ use mathlib.Core.Path.{_≡_}
 use Rattle.decimal.specs.Text.{put}
 use Rattle.refusal.specs.declared.Refusal.the-variants.{NotAForm}
 use Rattle.refusal.specs.declared.Verdict.the-variants.{Refused}
-use Rattle.log_rules.specs.Answers.{Stage, Told, answerText, fresh, onRing, onTree, opened, over}
+use Rattle.log_rules.specs.Answers.{Stage, Told, answerText, fresh, onRing, onTree, openedBy, over}
 use Rattle.log_rules.specs.Lines.{lineLimit}
 use Rattle.log_rules.specs.Output.{restOf}
 
@@ -37,7 +37,7 @@ heldOf line len = cond (leb len lineBytes) (take len line) (replicate 701 0)
 
 -- the answer to a line that says no form
 abbrev pub notTold : Stage → ℕ → Told
-notTold fresh k = opened (Refused NotAForm) fresh
+notTold fresh k = openedBy (Refused NotAForm) fresh
 notTold (onRing r m) k = record { stage = onRing r m; text = answerText k (Refused NotAForm) }
 notTold (onTree t) k = record { stage = onTree t; text = answerText k (Refused NotAForm) }
 notTold over k = record { stage = over; text = [] }

@@ -22,14 +22,14 @@ use Rattle.laws.proofs.Tests.{both, both-true, false-true, split}
 use Rattle.log_beginning.proofs.Laws.{flag-small}
 use Rattle.log_rules.proofs.Ends.{form-ended}
 use Rattle.log_rules.proofs.Theorems.{lines-say, says-first, says-itself}
-use Rattle.log_rules.specs.Answers.{Stage, firstTold, fresh, lineTold, onRing, onTree, opened}
+use Rattle.log_rules.specs.Answers.{Stage, firstTold, fresh, lineTold, onRing, onTree, openedBy}
 use Rattle.log_rules.specs.Pieces.{OneLine, PartLine}
 use Rattle.refusal.proofs.Table.{not-both}
 use Rattle.refusal.specs.Table.{_⟶_, firstOf}
 use Rattle.refusal.specs.declared.Refusal.the-variants.{NodeCount, UnknownNode}
 use Rattle.refusal.specs.declared.Verdict.{Verdict}
 use Rattle.refusal.specs.declared.Verdict.the-variants.{Accepted, Refused}
-use Rattle.log_runs.specs.First.{Asked, FirstAsks, allBelow, begun, inRange, firstVerdict, flagsTo, meant, no-start, startRows}
+use Rattle.log_runs.specs.First.{StartAsk, FirstAsks, allBelow, begun, inRange, firstVerdict, flagsTo, meant, no-start, startRows}
 use Rattle.log_runs.specs.Says.{Asks, cut, other, says}
 use Rattle.forms.specs.Read as read
 use Rattle.log_rules.proofs.Ends as ends
@@ -60,10 +60,10 @@ asks-once once (cut u) (cut u′) = refl
 
 -- ---- the first line
 
-pub first-asks : (l : List ℕ) → OneLine l → (a : Asked) × FirstAsks l a
+pub first-asks : (l : List ℕ) → OneLine l → (a : StartAsk) × FirstAsks l a
 first-asks l o = go (firstAt l 0) refl
   where
-    go : (x : Read Start) → firstAt l 0 ≡ x → (a : Asked) × FirstAsks l a
+    go : (x : Read Start) → firstAt l 0 ≡ x → (a : StartAsk) × FirstAsks l a
     go (read.read f e) p = (meant f, says f (says-itself (startForm f) l o (first-exact l 0 f e .0 p .0)))
     go read.other p = (no-start, other o (λ f s. first-other l 0 .0 p f (says-first (startForm f) l s)))
 
@@ -121,7 +121,7 @@ range most n k e =
     (ltb-true 0 n (w .0), leb-true n most (w .1), p .1)
 
 pub ring-accepted :
-    (n : ℕ) (active black : List ℕ) → firstVerdict (Asked.ring-start n active black) ≡ Accepted
+    (n : ℕ) (active black : List ℕ) → firstVerdict (StartAsk.ring-start n active black) ≡ Accepted
     → ringStart.startVerdict n (flagsTo active black n) ≡ Accepted
 ring-accepted n a b e =
     let w = range 96 n (known n a b) e in
@@ -132,15 +132,15 @@ ring-accepted n a b e =
       small = λ i h. subst⁻¹ (λ (x : ℕ). x ≤ 3) (flags-at a b n i h) (flag-small (named a i) (named b i));
     })
 
-pub tree-accepted : (n root : ℕ) → firstVerdict (Asked.tree-start n root) ≡ Accepted → treeStart.startVerdict n root ≡ Accepted
+pub tree-accepted : (n root : ℕ) → firstVerdict (StartAsk.tree-start n root) ≡ Accepted → treeStart.startVerdict n root ≡ Accepted
 tree-accepted n root e =
     let w = range 16 n (ltb root n) e in
     treeLaws.accepted-start n root (record { some-node = w .0; nodes = w .1; root-in = ltb-true root n (w .2) })
 
 -- ---- and is answered so
 
-opened-same : (v : Verdict) {s t : Stage} → (v ≡ Accepted → s ≡ t) → opened v s ≡ opened v t
-opened-same Accepted e = ap (opened Accepted) (e refl)
+opened-same : (v : Verdict) {s t : Stage} → (v ≡ Accepted → s ≡ t) → openedBy v s ≡ openedBy v t
+opened-same Accepted e = ap (openedBy Accepted) (e refl)
 opened-same (Refused x) e = refl
 
 -- the top of a ring's lists is past n exactly if a node that they name is none
@@ -159,11 +159,11 @@ top-known n a b {f} m = go (known n a b) refl (split (ltb n (f .top)))
 ring-told :
     (n top e : ℕ) (flags a b : List ℕ) → Means a b (ringFirst n flags top e)
     → firstTold (ringFirst n flags top e .kind) (ringFirst n flags top e)
-    ≡ opened (firstVerdict (Asked.ring-start n a b)) (begun (Asked.ring-start n a b))
+    ≡ openedBy (firstVerdict (StartAsk.ring-start n a b)) (begun (StartAsk.ring-start n a b))
 ring-told n top e flags a b m =
-    ap (λ (t : Bool). opened (firstOf ((not (inRange 96 n) ⟶ NodeCount) ∷ (t ⟶ UnknownNode) ∷ [])) (onRing (ringStart.firstState n (take n flags)) 0))
+    ap (λ (t : Bool). openedBy (firstOf ((not (inRange 96 n) ⟶ NodeCount) ∷ (t ⟶ UnknownNode) ∷ [])) (onRing (ringStart.firstState n (take n flags)) 0))
     (top-known n a b m)
-    ∙ opened-same (firstVerdict (Asked.ring-start n a b)) same
+    ∙ opened-same (firstVerdict (StartAsk.ring-start n a b)) same
   where
     places : n ≤ 96 → take n flags ≡ flagsTo a b n
     places h =
@@ -173,7 +173,7 @@ ring-told n top e flags a b m =
         let j : i < n = omega arith in
         getD-take n flags i 0 j ∙ (m .flag i (omega arith) ∙ sym (flags-at a b n i j)))
 
-    same : firstVerdict (Asked.ring-start n a b) ≡ Accepted → onRing (ringStart.firstState n (take n flags)) 0 ≡ begun (Asked.ring-start n a b)
+    same : firstVerdict (StartAsk.ring-start n a b) ≡ Accepted → onRing (ringStart.firstState n (take n flags)) 0 ≡ begun (StartAsk.ring-start n a b)
     same v =
         let w = range 96 n (known n a b) v in
         ap (λ (x : List ℕ). onRing (ringStart.firstState n x) 0) (places (w .1))
@@ -188,23 +188,23 @@ root-known n root = go (decLt root n)
 
 tree-told :
     (n root : ℕ)
-    → opened (treeStart.startVerdict n root) (onTree (treeStart.firstState n root))
-    ≡ opened (firstVerdict (Asked.tree-start n root)) (begun (Asked.tree-start n root))
+    → openedBy (treeStart.startVerdict n root) (onTree (treeStart.firstState n root))
+    ≡ openedBy (firstVerdict (StartAsk.tree-start n root)) (begun (StartAsk.tree-start n root))
 unfolding treeStart.startVerdict
 tree-told n root =
-    ap (λ (t : Bool). opened (firstOf ((not (inRange 16 n) ⟶ NodeCount) ∷ (t ⟶ UnknownNode) ∷ [])) (onTree (treeStart.firstState n root)))
+    ap (λ (t : Bool). openedBy (firstOf ((not (inRange 16 n) ⟶ NodeCount) ∷ (t ⟶ UnknownNode) ∷ [])) (onTree (treeStart.firstState n root)))
     (root-known n root)
-    ∙ opened-same (firstVerdict (Asked.tree-start n root))
+    ∙ opened-same (firstVerdict (StartAsk.tree-start n root))
     (λ v. ap onTree (sym (treeTheorems.start-answered .first n root (tree-accepted n root v))))
 
 start-told :
     {l : List ℕ} (f : Start) → Says l (startForm f)
-    → firstTold (seen f 0 .kind) (seen f 0) ≡ opened (firstVerdict (meant f)) (begun (meant f))
+    → firstTold (seen f 0 .kind) (seen f 0) ≡ openedBy (firstVerdict (meant f)) (begun (meant f))
 start-told (bare n) s = ring-told n 0 0 _ [] [] (bare-mean n 0)
 start-told (lists n a b) s = ring-told n _ 0 _ a b (lists-mean n a b 0 (s .1 .0 .1) (s .1 .0 .2))
 start-told (tree n root) s = tree-told n root
 
-pub first-told : {l : List ℕ} {a : Asked} → FirstAsks l a → lineTold fresh 1 l ≡ opened (firstVerdict a) (begun a)
+pub first-told : {l : List ℕ} {a : StartAsk} → FirstAsks l a → lineTold fresh 1 l ≡ openedBy (firstVerdict a) (begun a)
 first-told {l} (says f s) = lines-say .first 1 l f s ∙ start-told f s
 first-told {l} (other o h) = lines-say .first-other 1 l o h
 first-told {l} (cut u) = lines-say .unended fresh 1 l u

@@ -23,7 +23,7 @@ use Rattle.runs.proofs.Runs.{accepted-append, run-append}
 use Rattle.runs.specs.Runs.{Accepts, Machine, Request, acceptedOf, next, runOf}
 use Rattle.log_runs.proofs.First.{asks-once}
 use Rattle.log_runs.specs.Says.{Ask, Asks, Each, cut, line, no-line, no-step, other, printed, request, requestsIn, says, stageAfter}
-use Rattle.log_runs.specs.WholeLog.{AnnouncedAt, CountsDown, NoneBefore, OkAt, joined, judged, oks, said, verdictAt}
+use Rattle.log_runs.specs.WholeLog.{AnnouncedAt, CountsDown, NoneBefore, OkAt, oks, said, textsTo, verdictAt, verdictOn}
 use Rattle.log_rules.specs.Theorems as lines
 
 -- ---- what is printed
@@ -36,8 +36,8 @@ told-printed s k (l ∷ ls) =
     ap (λ (w : List ℕ). t .text ++ w) (told-printed (t .stage) (k + 1) ls)
     ∙ sym (append-assoc (t .text) (printed (t .stage) (k + 1) ls) (endText (stageAfter (t .stage) (k + 1) ls)))
 
-joined-same : {f : ℕ → List ℕ} (g : ℕ → List ℕ) → ((i : ℕ) → f i ≡ g i) → (n : ℕ) → joined f n ≡ joined g n
-joined-same g e n = ap (λ (h : ℕ → List ℕ). joined h n) (fun-ext e)
+texts-same : {f : ℕ → List ℕ} (g : ℕ → List ℕ) → ((i : ℕ) → f i ≡ g i) → (n : ℕ) → textsTo f n ≡ textsTo g n
+texts-same g e n = ap (λ (h : ℕ → List ℕ). textsTo h n) (fun-ext e)
 
 -- the state after what a line asks for
 abbrev pub after : {S : Type 0} → Machine S → S → Ask → S
@@ -50,7 +50,7 @@ module _ {S : Type 0} (m : Machine S) where
   verdict-next s (request x) qs i = refl
   verdict-next s no-step qs i = refl
 
-  verdict-first : (s : S) (a : Ask) (qs : List Ask) → judged m s a ≡ verdictAt m s (a ∷ qs) 0
+  verdict-first : (s : S) (a : Ask) (qs : List Ask) → verdictOn m s a ≡ verdictAt m s (a ∷ qs) 0
   unfolding runOf
   verdict-first s a qs = refl
 
@@ -63,7 +63,7 @@ module _ {S : Type 0} (m : Machine S) where
 
   -- a line that asks for a is answered with the verdict on it, and the run goes on
   pub record Answers (stage : S → ℕ → Stage) (s : S) (moves k : ℕ) (l : List ℕ) (a : Ask) : Type 0 where
-    pub text : lineTold (stage s moves) k l .text ≡ answerText k (judged m s a)
+    pub text : lineTold (stage s moves) k l .text ≡ answerText k (verdictOn m s a)
     pub moves′ : ℕ
     pub there : lineTold (stage s moves) k l .stage ≡ stage (after m s a) moves′
 
@@ -71,19 +71,19 @@ module _ {S : Type 0} (m : Machine S) where
       {P : List ℕ → Ask → Type 0} {stage : S → ℕ → Stage}
       → ((s : S) (moves k : ℕ) (l : List ℕ) (a : Ask) → P l a → Answers stage s moves k l a)
       → (s : S) (moves k : ℕ) {ls : List (List ℕ)} {qs : List Ask} → Each P ls qs
-      → printed (stage s moves) k ls ≡ joined (λ i. answerText (k + i) (verdictAt m s qs i)) (length qs)
-  unfolding printed joined
+      → printed (stage s moves) k ls ≡ textsTo (λ i. answerText (k + i) (verdictAt m s qs i)) (length qs)
+  unfolding printed textsTo
   lines-printed h s moves k no-line = refl
   lines-printed {stage = stage} h s moves k (line {l} {ls} {a} {qs} p c) =
       let w = h s moves k l a p in
       let rest = lines-printed h (after m s a) (w .moves′) (k + 1) c in
-      let x = answerText k (judged m s a) in
+      let x = answerText k (verdictOn m s a) in
       let later : ℕ → List ℕ = λ i. answerText (k + suc i) (verdictAt m s (a ∷ qs) (suc i)) in
       ap (λ (t : List ℕ). t ++ printed (lineTold (stage s moves) k l .stage) (k + 1) ls) (w .text)
       ∙ (ap (λ (g : Stage). x ++ printed g (k + 1) ls) (w .there)
-      ∙ (ap (λ (t : List ℕ). x ++ t) (rest ∙ joined-same later (number s a qs k) (length qs))
-      ∙ (ap (λ (v : Verdict). answerText k v ++ joined later (length qs)) (verdict-first s a qs)
-      ∙ ap (λ (n : ℕ). answerText n (verdictAt m s (a ∷ qs) 0) ++ joined later (length qs)) (sym (add-zero k)))))
+      ∙ (ap (λ (t : List ℕ). x ++ t) (rest ∙ texts-same later (number s a qs k) (length qs))
+      ∙ (ap (λ (v : Verdict). answerText k v ++ textsTo later (length qs)) (verdict-first s a qs)
+      ∙ ap (λ (n : ℕ). answerText n (verdictAt m s (a ∷ qs) 0) ++ textsTo later (length qs)) (sym (add-zero k)))))
 
 -- ---- the requests of lines
 
@@ -124,7 +124,7 @@ module _ {S : Type 0} (m : Machine S) (s : S) (qs : List Ask) where
       ≡ acceptedOf m s (said qs i) ++ acceptedOf m (runOf m s (said qs i)) (requestsIn (getD qs i no-step ∷ []))
   accepted-next i = ap (acceptedOf m s) (said-next qs i) ∙ accepted-append m s (said qs i) (requestsIn (getD qs i no-step ∷ []))
 
-  one-more : (t : S) (a : Ask) → length (acceptedOf m t (requestsIn (a ∷ []))) ≡ cond (isAccepted (judged m t a)) 1 0
+  one-more : (t : S) (a : Ask) → length (acceptedOf m t (requestsIn (a ∷ []))) ≡ cond (isAccepted (verdictOn m t a)) 1 0
   unfolding acceptedOf
   one-more t no-step = refl
   one-more t (request x) = go (m .verdict t x)
@@ -170,7 +170,7 @@ module _ {S : Type 0} (m : Machine S) (s : S) (qs : List Ask) where
   ok-request i = go (getD qs i no-step) refl
     where
       go :
-          (a : Ask) → getD qs i no-step ≡ a → judged m (runOf m s (said qs i)) a ≡ Accepted
+          (a : Ask) → getD qs i no-step ≡ a → verdictOn m (runOf m s (said qs i)) a ≡ Accepted
           → (x : Request) × (getD qs i no-step ≡ request x) × Accepts m (runOf m s (said qs i)) x
       go (request x) e ok = (x, e, ok)
       go no-step e ok = absurd (not-both ok refl)
@@ -251,7 +251,7 @@ module _ {F : Type 0} (d : Steps F) where
 
   module _ {S : Type 0} (m : Machine S) (s : S) {ls : List (List ℕ)} {qs : List Ask} (c : Each LineAsks ls qs) where
     pub announce-ok : (i : ℕ) → AnnouncedAt m s qs ls i → Accepts m (runOf m s (said qs i)) (d .asked (d .last))
-    announce-ok i a = subst (λ (b : Ask). judged m (runOf m s (said qs i)) b ≡ Accepted) (announce-asks c i (a .0)) (a .1)
+    announce-ok i a = subst (λ (b : Ask). verdictOn m (runOf m s (said qs i)) b ≡ Accepted) (announce-asks c i (a .0)) (a .1)
 
     -- an announcement that is accepted is among the requests that are
     announced : (i : ℕ) → AnnouncedAt m s qs ls i → any (d .announces) (acceptedOf m s (said qs (suc i))) ≡ true
@@ -292,7 +292,7 @@ module _ {F : Type 0} (d : Steps F) where
                 → any (d .announces) (settle v (x ∷ []) []) ≡ false
             go (Refused f) p b y = refl
             go Accepted p false y = rw y
-            go Accepted p true y = absurd (h j (omega arith) (announce-only (each-at c j) e y, ap (judged m (runOf m s (said qs j))) e ∙ p))
+            go Accepted p true y = absurd (h j (omega arith) (announce-only (each-at c j) e y, ap (verdictOn m (runOf m s (said qs j))) e ∙ p))
 
     -- so the later ones say no more
     unannounced-between :
@@ -332,8 +332,8 @@ module _ {F : Type 0} (d : Steps F) where
         same : (j : ℕ) → i ≤ j → {x : Request} → getD qs j no-step ≡ request x
             → OkAt m s qs j ↔ Accepts m (runOf m (runOf m s (said qs i)) (between qs i j)) x
         same j h {x} is = (
-          λ ok. subst (λ (t : S). Accepts m t x) (there j h) (subst (λ (b : Ask). judged m (runOf m s (said qs j)) b ≡ Accepted) is ok),
-          λ a. ap (judged m (runOf m s (said qs j))) is ∙ subst (λ (t : S). Accepts m t x) (sym (there j h)) a,
+          λ ok. subst (λ (t : S). Accepts m t x) (there j h) (subst (λ (b : Ask). verdictOn m (runOf m s (said qs j)) b ≡ Accepted) is ok),
+          λ a. ap (verdictOn m (runOf m s (said qs j))) is ∙ subst (λ (t : S). Accepts m t x) (sym (there j h)) a,
         )
 
         one : (j : ℕ) (x : Request) → getD qs j no-step ≡ request x → Step x ⊎ (d .announces x ≡ true)

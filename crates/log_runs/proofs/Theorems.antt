@@ -34,7 +34,7 @@ use Rattle.tree_runs.specs.WholeRun.{stepsBy}
 use Rattle.log_runs.proofs.Detectors.{ring-steps, tree-steps}
 use Rattle.log_runs.proofs.Runs.{each-asks, each-once}
 use Rattle.log_runs.proofs.First.{asks-once, first-asks, first-told, ring-accepted, start-once, tree-accepted}
-use Rattle.log_runs.specs.First.{Asked, FirstAsks, no-start}
+use Rattle.log_runs.specs.First.{FirstAsks, StartAsk, no-start}
 use Rattle.log_runs.specs.Says.{Ask, BegunOpen, Each, RingAsks, TreeAsks, cut, line, no-line, other, requestsIn, says, RingSays, TreeSays, moveBy, movesIn, printed, stageAfter}
 use Rattle.log_runs.specs.Theorems.{LogRuns, Ok, RingCountdown}
 use Rattle.log_rules.specs.Theorems as lines
@@ -268,7 +268,7 @@ tree-last t running k j {xs = xs} c a l ok =
 
 -- ---- the first line
 
-asks : {s l : List ℕ} {ls : List (List ℕ)} → LinesOf s (l ∷ ls) → (a : Asked) × FirstAsks l a
+asks : {s l : List ℕ} {ls : List (List ℕ)} → LinesOf s (l ∷ ls) → (a : StartAsk) × FirstAsks l a
 asks (lines.last u h) = (no-start, cut u)
 asks (lines.another {l} o c) = first-asks l o
 

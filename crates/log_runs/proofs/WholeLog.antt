@@ -8,7 +8,7 @@ use native.Mathlib.Nat.{zero-add}
 use Rattle.decimal.specs.Text.{decimal, digits}
 use Rattle.log_rules.proofs.Cuts.{lines-over}
 use Rattle.log_rules.proofs.Theorems.{lines-cut, lines-read}
-use Rattle.log_rules.specs.Answers.{Stage, answerText, endText, fresh, onRing, onTree, opened, ringEnd, ringRequest, treeRequest}
+use Rattle.log_rules.specs.Answers.{Stage, answerText, endText, fresh, onRing, onTree, openedBy, ringEnd, ringRequest, treeRequest}
 use Rattle.log_rules.specs.Lines.{lineLimit, linesOf}
 use Rattle.log_rules.specs.Output.{linesTold, outputOf}
 use Rattle.log_rules.specs.Theorems.{LinesOf}
@@ -27,7 +27,7 @@ use Rattle.log_runs.proofs.Detectors.{ring-answers, ring-steps, tree-an
 use Rattle.log_runs.proofs.First.{first-told, ring-accepted, tree-accepted}
 use Rattle.log_runs.proofs.Runs.{Left, announce-ok, counts-down, each-asks, lines-printed, none-after, told-printed, unannounced}
 use Rattle.log_runs.proofs.Theorems.{log-runs}
-use Rattle.log_runs.specs.First.{Asked, FirstAsks, begun, firstVerdict, flagsTo, no-start, ring-start, tree-start}
+use Rattle.log_runs.specs.First.{FirstAsks, StartAsk, begun, firstVerdict, flagsTo, no-start, ring-start, tree-start}
 use Rattle.log_runs.specs.Says.{Ask, Each, RingAsks, TreeAsks, movesIn, printed, requestsIn, stageAfter}
 use Rattle.log_runs.specs.WholeLog.{LogBy, RingLog, TreeLog, WholeLog, answers, said}
 use Rattle.log_rules.specs.Theorems as lines
@@ -59,11 +59,11 @@ later-lines (lines.another {s = s} o c) = (s, c)
 
 -- ---- the first line decides
 
-module _ (s l : List ℕ) (ls : List (List ℕ)) (o : outputOf s ≡ linesTold fresh 1 (l ∷ ls)) {a : Asked} (f : FirstAsks l a) where
-  by-first : {v : Verdict} → firstVerdict a ≡ v → outputOf s ≡ opened v (begun a) .text ++ linesTold (opened v (begun a) .stage) 2 ls
+module _ (s l : List ℕ) (ls : List (List ℕ)) (o : outputOf s ≡ linesTold fresh 1 (l ∷ ls)) {a : StartAsk} (f : FirstAsks l a) where
+  by-first : {v : Verdict} → firstVerdict a ≡ v → outputOf s ≡ openedBy v (begun a) .text ++ linesTold (openedBy v (begun a) .stage) 2 ls
   unfolding linesTold
   by-first {v} is =
-      let told = first-told f ∙ ap (λ (v : Verdict). opened v (begun a)) is in
+      let told = first-told f ∙ ap (λ (v : Verdict). openedBy v (begun a)) is in
       o ∙ ap (λ (t : rules.Told). t .text ++ linesTold (t .stage) 2 ls) told
 
   refused : {x : Refusal} → firstVerdict a ≡ Refused x → outputOf s ≡ answerText 1 (Refused x)
@@ -186,7 +186,7 @@ unfolding linesTold decimal digits
 nothing-told = refl
 
 told-by :
-    (s l : List ℕ) (ls : List (List ℕ)) → outputOf s ≡ linesTold fresh 1 (l ∷ ls) → {s′ : List ℕ} → LinesOf s′ ls → (a : Asked) → FirstAsks l a
+    (s l : List ℕ) (ls : List (List ℕ)) → outputOf s ≡ linesTold fresh 1 (l ∷ ls) → {s′ : List ℕ} → LinesOf s′ ls → (a : StartAsk) → FirstAsks l a
     → (v : Verdict) → firstVerdict a ≡ v → LogBy s ls a v
 told-by s l ls o c a f (Refused x) e = refused s l ls o f e
 told-by s l ls o c (ring-start n active black) f Accepted e =

@@ -15,18 +15,18 @@ use Rattle.ring_rules.specs.Start as ringStart
 use Rattle.tree_rules.specs.Start as treeStart
 
 -- a ring of n nodes, the active and the black ones named; a tree of n nodes with its root; or no start
-pub data Asked : Type 0 where
-  ring-start : (n : ℕ) (active black : List ℕ) → Asked
-  tree-start : (n root : ℕ) → Asked
-  no-start : Asked
+pub data StartAsk : Type 0 where
+  ring-start : (n : ℕ) (active black : List ℕ) → StartAsk
+  tree-start : (n root : ℕ) → StartAsk
+  no-start : StartAsk
 
 -- "A ring line has both lists or neither; without lists it means all idle and white."
-abbrev pub meant : Start → Asked
+abbrev pub meant : Start → StartAsk
 meant (bare n) = ring-start n [] []
 meant (lists n active black) = ring-start n active black
 meant (tree n root) = tree-start n root
 
-abbrev pub FirstAsks : List ℕ → Asked → Type 0
+abbrev pub FirstAsks : List ℕ → StartAsk → Type 0
 FirstAsks = Asks startForm meant no-start
 
 -- "Start takes N and N flag bytes": those of nodes 0 to n - 1, 1 for one that is named active and 2 more for one that is named black
@@ -48,13 +48,13 @@ abbrev pub startRows : Bool → Bool → List Row
 startRows count known = (not count ⟶ NodeCount) ∷ (not known ⟶ UnknownNode) ∷ []
 
 -- "log line | 10 | not one of the forms below" comes before both
-abbrev pub firstVerdict : Asked → Verdict
+abbrev pub firstVerdict : StartAsk → Verdict
 firstVerdict (ring-start n active black) = firstOf (startRows (inRange 96 n) (allBelow n active && allBelow n black))
 firstVerdict (tree-start n root) = firstOf (startRows (inRange 16 n) (ltb root n))
 firstVerdict no-start = Refused NotAForm
 
 -- the run that an accepted first line begins: the state of that start, no token move counted
-abbrev pub begun : Asked → Stage
+abbrev pub begun : StartAsk → Stage
 begun (ring-start n active black) = onRing (ringStart.startOf n (flagsTo active black n) .state) 0
 begun (tree-start n root) = onTree (treeStart.startOf n root .state)
 begun no-start = over

@@ -1,11 +1,11 @@
 -- Document 01's listing as a whole log: before its line 2 every node is passive and no message is in transit, and four token moves are
 -- left, "the bound for N = 2". proofs/Listing.antt proves it.
 use Prim.Native.Nat.{ℕ}
-use mathlib.Core.List.{List, [], _++_, _∷_}
+use mathlib.Core.List.{List, [], _∷_}
 use mathlib.Core.Path.{_≡_}
 use Rattle.decimal.specs.Bytes.{bytes}
 use Rattle.log_rules.specs.Answers.{onRing}
-use Rattle.log_rules.specs.Lines.{linesOf}
+use Rattle.log_rules.specs.Lines.{joined, linesOf}
 use Rattle.refusal.specs.declared.Verdict.the-variants.{Accepted}
 use Rattle.ring_rules.specs.Start.{startOf}
 use Rattle.ring_rules.specs.State.{State}
@@ -28,12 +28,8 @@ otherLines =
     ∷ bytes "(pass 1)\n"
     ∷ []
 
-abbrev pub together : List (List ℕ) → List ℕ
-together [] = []
-together (l ∷ ls) = l ++ together ls
-
 abbrev pub listing : List ℕ
-listing = together (firstLine ∷ otherLines)
+listing = joined (firstLine ∷ otherLines)
 
 -- two passive nodes, of which node 1 is black
 abbrev pub first : State

@@ -6,13 +6,13 @@ use mathlib.Core.List.{List, _++_, _∷_}
 use mathlib.Core.Logic.{_↔_}
 use mathlib.Core.Path.{_≡_}
 use Rattle.forms.specs.Form.{Says, announce}
-use Rattle.log_rules.specs.Answers.{Stage, answerText, fresh, lineTold, onRing, onTree, opened}
+use Rattle.log_rules.specs.Answers.{Stage, answerText, fresh, lineTold, onRing, onTree, openedBy}
 use Rattle.log_rules.specs.Output.{linesTold}
 use Rattle.log_rules.specs.Theorems.{LinesOf}
 use Rattle.refusal.specs.declared.Verdict.the-variants.{Accepted}
 use Rattle.runs.specs.Runs.{Request, acceptedOf, runOf}
 use Rattle.tree_runs.specs.WholeRun.{stepsBy}
-use Rattle.log_runs.specs.First.{Asked, FirstAsks, begun, firstVerdict, flagsTo, ring-start, tree-start}
+use Rattle.log_runs.specs.First.{FirstAsks, StartAsk, begun, firstVerdict, flagsTo, ring-start, tree-start}
 use Rattle.log_runs.specs.Says.{Ask, BegunOpen, Each, RingAsks, RingSays, TreeAsks, TreeSays, movesIn, printed, stageAfter}
 use Rattle.ring_rules.specs.State as ringState
 use Rattle.ring_rules.specs.Soundness as ringSound
@@ -44,10 +44,10 @@ pub record LogRuns : Type 0 where
       → linesTold s k (ls ++ (l ∷ rest))
       ≡ printed s k ls ++ (lineTold (stageAfter s k ls) (k + length ls) l .text ++ linesTold (lineTold (stageAfter s k ls) (k + length ls) l .stage) (k + length ls + 1) rest)
   -- the first line asks for a start or for none, and for that alone
-  pub first-asks : {s l : List ℕ} {ls : List (List ℕ)} → LinesOf s (l ∷ ls) → (a : Asked) × FirstAsks l a
-  pub first-once : {l : List ℕ} {a b : Asked} → FirstAsks l a → FirstAsks l b → a ≡ b
+  pub first-asks : {s l : List ℕ} {ls : List (List ℕ)} → LinesOf s (l ∷ ls) → (a : StartAsk) × FirstAsks l a
+  pub first-once : {l : List ℕ} {a b : StartAsk} → FirstAsks l a → FirstAsks l b → a ≡ b
   -- it is answered by the first row of the table that applies, and where there is none it begins the run of that start
-  pub first-told : {l : List ℕ} {a : Asked} → FirstAsks l a → lineTold fresh 1 l ≡ opened (firstVerdict a) (begun a)
+  pub first-told : {l : List ℕ} {a : StartAsk} → FirstAsks l a → lineTold fresh 1 l ≡ openedBy (firstVerdict a) (begun a)
   -- which is an accepted start, so that `from-start` and `RunsAgree` (crates ring_runs and tree_runs) speak of the run
   pub ring-started :
       (n : ℕ) (active black : List ℕ) → firstVerdict (ring-start n active black) ≡ Accepted

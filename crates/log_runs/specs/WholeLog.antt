@@ -21,7 +21,7 @@ use Rattle.runs.specs.Runs.{Machine, Request, acceptedOf, runOf}
 use Rattle.tree_rules.specs.Termination.{Closing}
 use Rattle.tree_runs.specs.Counts.{tree}
 use Rattle.tree_runs.specs.WholeRun.{stepsBy}
-use Rattle.log_runs.specs.First.{Asked, FirstAsks, firstVerdict, flagsTo, no-start, ring-start, tree-start}
+use Rattle.log_runs.specs.First.{FirstAsks, StartAsk, firstVerdict, flagsTo, no-start, ring-start, tree-start}
 use Rattle.log_runs.specs.Says.{Ask, Each, RingAsks, TreeAsks, movesIn, no-step, request, requestsIn}
 use Rattle.ring_rules.specs.Start as ringStart
 use Rattle.ring_rules.specs.State as ringState
@@ -43,24 +43,24 @@ abbrev pub said : List Ask → ℕ → List Request
 said qs i = requestsIn (take i qs)
 
 -- the verdict on what a line asks for, where the run has come to s
-abbrev pub judged : {S : Type 0} → Machine S → S → Ask → Verdict
-judged m s (request x) = m .verdict s x
-judged m s no-step = Refused NotAForm
+abbrev pub verdictOn : {S : Type 0} → Machine S → S → Ask → Verdict
+verdictOn m s (request x) = m .verdict s x
+verdictOn m s no-step = Refused NotAForm
 
 -- the texts f 0, f 1 .. f (n - 1)
-unfoldable pub joined : (ℕ → List ℕ) → ℕ → List ℕ
-joined f zero = []
-joined f (suc n) = f 0 ++ joined (λ i. f (suc i)) n
+unfoldable pub textsTo : (ℕ → List ℕ) → ℕ → List ℕ
+textsTo f zero = []
+textsTo f (suc n) = f 0 ++ textsTo (λ i. f (suc i)) n
 
 -- A run of the machine m from s, whose lines, 2 and on, are `lines` and ask for `qs`.
 module _ {S : Type 0} (m : Machine S) (s : S) (qs : List Ask) where
   -- the verdict on line 2 + i: the machine's, on the state that the requests of the lines before it lead to
   abbrev pub verdictAt : ℕ → Verdict
-  verdictAt i = judged m (runOf m s (said qs i)) (getD qs i no-step)
+  verdictAt i = verdictOn m (runOf m s (said qs i)) (getD qs i no-step)
 
   -- the answers to these lines
   abbrev pub answers : List ℕ
-  answers = joined (λ i. answerText (2 + i) (verdictAt i)) (length qs)
+  answers = textsTo (λ i. answerText (2 + i) (verdictAt i)) (length qs)
 
   -- line 2 + i is answered with ok
   abbrev pub OkAt : ℕ → Type 0
@@ -156,16 +156,16 @@ pub record TreeLog (s : List ℕ) (lines : List (List ℕ)) (n root : ℕ) (t : 
 -- ---- the log
 
 -- by the verdict on the first line: "After a bad or missing first line the program prints only that refusal"
-abbrev pub LogBy : List ℕ → List (List ℕ) → Asked → Verdict → Type 0
+abbrev pub LogBy : List ℕ → List (List ℕ) → StartAsk → Verdict → Type 0
 LogBy s lines a (Refused e) = outputOf s ≡ answerText 1 (Refused e)
 LogBy s lines (ring-start n active black) Accepted = RingLog s lines n (ringStart.startOf n (flagsTo active black n) .state)
 LogBy s lines (tree-start n root) Accepted = TreeLog s lines n root (treeStart.startOf n root .state)
 LogBy s lines no-start Accepted = ⊥
 
 -- its first line is missing; or it asks for a start or for none, and the verdict on that decides
-pub record Log (s : List ℕ) : Type 0 where
+pub record LogTold (s : List ℕ) : Type 0 where
   pub missing : linesOf s ≡ [] → outputOf s ≡ bytes "(no 1 10)\n"
-  pub begins : (l : List ℕ) (lines : List (List ℕ)) → linesOf s ≡ l ∷ lines → (a : Asked) × FirstAsks l a × LogBy s lines a (firstVerdict a)
+  pub begins : (l : List ℕ) (lines : List (List ℕ)) → linesOf s ≡ l ∷ lines → (a : StartAsk) × FirstAsks l a × LogBy s lines a (firstVerdict a)
 
 abbrev pub WholeLog : Type 0
-WholeLog = (s : List ℕ) → Log s
+WholeLog = (s : List ℕ) → LogTold s

@@ -18,7 +18,7 @@ use Rattle.log_rules.specs.Output.{restOf}
 use Rattle.log_rules.specs.Pieces.{NoMore, OneLine, PartLine, Went, cut, empty, full, hasLine, heldOf, notTold}
 use Rattle.log_text.specs.Wrote.{Wrote}
 use Rattle.log_state.proofs.Held.{held-more, part-all, part-line, sound-later, stands-part, stands-rest, told-line, told-long, went-whole}
-use Rattle.log_state.specs.Feed.{FedFrom, Going, Good, HeldRest, HeldTold, Room, Stands, stageOf}
+use Rattle.log_state.specs.Feed.{FedFrom, Going, Good, HeldRest, HeldTold, Room, StandsFor, stageOf}
 use Rattle.log_state.specs.declared.Fed.{Fed}
 use Rattle.log_state.specs.declared.Log.{Log}
 use Rattle.log_rules.specs.Answers as rules
@@ -92,7 +92,7 @@ over-fed l text line out at e unheld most places enough = record {
 
 pub first-held : (x : rules.Told) (o : openings.Opening) (f : Fed) {k len : ℕ} {line out out′ : List ℕ} → Begins x o out out′
     → (stageOf (f .log) ≡ stageBy (o .stage) (o .ring) 0 (o .tree)) × (f .log .lines ≡ k + 1) × (f .log .len ≡ 0) × (f .count ≡ o .at)
-    → k < lineLimit → ((l : List ℕ) → Stands line len l → OneLine l → rules.lineTold rules.fresh (k + 1) l ≡ x)
+    → k < lineLimit → ((l : List ℕ) → StandsFor line len l → OneLine l → rules.lineTold rules.fresh (k + 1) l ≡ x)
     → HeldTold rules.fresh k len line f out out′
 first-held x o f {k} b e under tell =
     let st : stageOf (f .log) ≡ x .stage = e .0 ∙ b .stage in

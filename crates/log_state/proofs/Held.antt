@@ -15,7 +15,7 @@ use Rattle.log_rules.proofs.Ends.{ended-itself, ended-left}
 use Rattle.log_rules.specs.Lines.{lineLimit}
 use Rattle.log_rules.specs.Output.{restOf}
 use Rattle.log_rules.specs.Pieces.{NoMore, OneLine, PartLine, Went, another, cut, empty, full, heldOf, notTold}
-use Rattle.log_state.specs.Feed.{Stands}
+use Rattle.log_state.specs.Feed.{StandsFor}
 use Rattle.log_rules.specs.Answers as rules
 use Rattle.forms.specs.Form as forms
 use Rattle.decimal.proofs.Cases as cases
@@ -41,7 +41,7 @@ held-length line len n h = ap length (held-small line len h) ∙ length-take-le 
 
 -- more bytes are held
 pub held-more : (line line′ w : List ℕ) (len len′ : ℕ) → length line ≡ 700 → len′ ≡ min (len + length w) 701
-    → take len′ line′ ≡ take 700 (take len line ++ w) → Stands line′ len′ (heldOf line len ++ w)
+    → take len′ line′ ≡ take 700 (take len line ++ w) → StandsFor line′ len′ (heldOf line len ++ w)
 held-more line line′ w len len′ n is same = record {
   small = λ h.
       let few : len + length w ≤ 700 = omega arith in
@@ -56,7 +56,7 @@ held-more line line′ w len len′ n is same = record {
     go (inr le) h = omega (arith, length-append (heldOf line len) w, held-long-length line len (omega arith))
 
 -- what stands there may be exchanged for what is held
-module _ (line : List ℕ) (len : ℕ) {l : List ℕ} (s : Stands line len l) (u : PartLine l) where
+module _ (line : List ℕ) (len : ℕ) {l : List ℕ} (s : StandsFor line len l) (u : PartLine l) where
   by-held : (P : List ℕ → Type 0) → (len ≤ 700 → P (take len line)) → (700 < len → P (replicate 701 0)) → P (heldOf line len)
   by-held P f g = go (cases.split len 701)
     where

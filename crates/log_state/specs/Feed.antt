@@ -79,7 +79,7 @@ pub record Going (l : Log) : Type 0 where
   pub empty : l .len ≡ 0
 
 -- the buffer stands for the line l: it holds its bytes, or says that they are too many
-pub record Stands (line : List ℕ) (len : ℕ) (l : List ℕ) : Type 0 where
+pub record StandsFor (line : List ℕ) (len : ℕ) (l : List ℕ) : Type 0 where
   pub small : len ≤ lineBytes → l ≡ take len line
   pub long : lineBytes < len → lineBytes < length l
 
@@ -91,7 +91,7 @@ pub record HeldReady (lines len : ℕ) (line out : List ℕ) : Type 0 where
 -- the line that the buffer stands for is answered
 pub record HeldTold (s : rules.Stage) (k len : ℕ) (line : List ℕ) (f : Fed) (out out′ : List ℕ) : Type 0 where
   pub written : List ℕ
-  pub left : (l : List ℕ) → Stands line len l → OneLine l → (rest : List ℕ)
+  pub left : (l : List ℕ) → StandsFor line len l → OneLine l → (rest : List ℕ)
       → restOf s k [] (l ++ rest) ≡ written ++ restOf (stageOf (f .log)) (f .log .lines) [] rest
   pub wrote : Wrote out 0 written (f .count) out′
   pub short : f .count ≤ 700 * 16

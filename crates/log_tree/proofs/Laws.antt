@@ -23,7 +23,7 @@ use Rattle.tree_rules.specs.Answers.{Answer, answerOf, stepOf}
 use Rattle.tree_rules.specs.Rules.{kindOf}
 use Rattle.tree_rules.specs.Soundness.{Sound}
 use Rattle.tree_check.specs.Told.{answer}
-use Rattle.log_tree.specs.Run.{Answered, Fed, Inside, TreeWent}
+use Rattle.log_tree.specs.Run.{Inside, LinesFed, TreeLineAnswered, TreeWent}
 use Rattle.log_tree.specs.declared.TreeFed.{TreeFed}
 use Rattle.log_tree.specs.declared.TreeRun.{TreeRun}
 use Rattle.tree_rules.specs.State as rules
@@ -37,7 +37,7 @@ told-short s k treeLine.NotAForm h = answer-short k (Refused refusals.NotAForm) 
 
 pub answered-went : (r t : TreeRun) (s s′ : rules.State) (piece out out′ : List ℕ) (said : TreeLine) (e : ℕ)
     → said ≡ treeAt piece (r .next) → OneLine (line (drop (r .next) piece)) → e ≡ r .next + length (line (drop (r .next) piece))
-    → r .next ≤ length piece → r .lines < lineLimit → Answered r t s s′ said e out out′
+    → r .next ≤ length piece → r .lines < lineLimit → TreeLineAnswered r t s s′ said e out out′
     → TreeWent r t s s′ piece out out′ × Onward (r .next) (t .next) piece
 answered-went r t s s′ piece out out′ said e is en past inside under a =
     let x = treeTold s (r .lines + 1) said in
@@ -58,7 +58,7 @@ pub step-answered : (r t : TreeRun) (s s′ : rules.State) (f : TreeStep) (end :
     → (kind ≡ treeRequest f .kind) × (i ≡ treeRequest f .i) × (j ≡ treeRequest f .j)
     → t .lines ≡ r .lines + 1 → t .next ≡ end
     → Wrote out (r .at) (answerText (r .lines + 1) v) (t .at) out′
-    → Answered r t s s′ (treeLine.Step f end) end out out′
+    → TreeLineAnswered r t s s′ (treeLine.Step f end) end out out′
 step-answered r t s s′ f end out out′ v kind i j sound same asked lines past wrote =
     let x = treeRequest f in
     let p : answer v s′ ≡ stepOf s (x .kind) (x .i) (x .j) =
@@ -77,7 +77,7 @@ step-answered r t s s′ f end out out′ v kind i j sound same asked lines past
 pub formless-answered : (r t : TreeRun) (s s′ : rules.State) (end : ℕ) (out out′ : List ℕ) → Sound s → s′ ≡ s
     → t .lines ≡ r .lines + 1 → t .next ≡ end
     → Wrote out (r .at) (answerText (r .lines + 1) (Refused refusals.NotAForm)) (t .at) out′
-    → Answered r t s s′ treeLine.NotAForm end out out′
+    → TreeLineAnswered r t s s′ treeLine.NotAForm end out out′
 formless-answered r t s s′ end out out′ sound same lines past wrote =
     record {
       stage = rw same;
@@ -114,7 +114,7 @@ run-none r s piece out f = record {
 pub fed-by : {r t : TreeRun} {s₀ s₁ s : rules.State} {piece out out′ : List ℕ} (f : TreeFed) → s₀ ≡ s → state (f .tree) ≡ s₁
     → f .lines ≡ t .lines → f .next ≡ t .next → f .at ≡ t .at
     → TreeWent r t s₀ s₁ piece out out′ → NoMore (t .lines) (t .next) piece
-    → Fed s (r .lines) piece (r .next) out (r .at) f out′
+    → LinesFed s (r .lines) piece (r .next) out (r .at) f out′
 fed-by f first last l n a w no-more = record {
   went = rw (← first, last, l, n, a) (w .went);
   sound = subst Sound (sym last) (w .sound);

@@ -21,7 +21,7 @@ pub record Ready (r : TreeRun) (s : rules.State) (out : List ℕ) : Type 0 where
   pub room : r .at + 16 ≤ length out
 
 -- the next line, of which the recogniser says `said`, is answered by the definitions: t and s′ are the run and its state after it
-pub record Answered (r t : TreeRun) (s s′ : rules.State) (said : TreeLine) (end : ℕ) (out out′ : List ℕ) : Type 0 where
+pub record TreeLineAnswered (r t : TreeRun) (s s′ : rules.State) (said : TreeLine) (end : ℕ) (out out′ : List ℕ) : Type 0 where
   pub stage : onTree s′ ≡ treeTold s (r .lines + 1) said .stage
   pub wrote : Wrote out (r .at) (treeTold s (r .lines + 1) said .text) (t .at) out′
   pub line : t .lines ≡ r .lines + 1
@@ -44,7 +44,7 @@ pub record TreeWent (r t : TreeRun) (s s′ : rules.State) (piece out out′ : L
   pub sound : Sound s′
 
 -- all lines of the piece that are whole are answered
-pub record Fed (s : rules.State) (lines : ℕ) (piece : List ℕ) (from : ℕ) (out : List ℕ) (at : ℕ) (f : TreeFed) (out′ : List ℕ) : Type 0 where
+pub record LinesFed (s : rules.State) (lines : ℕ) (piece : List ℕ) (from : ℕ) (out : List ℕ) (at : ℕ) (f : TreeFed) (out′ : List ℕ) : Type 0 where
   pub went : Went (onTree s) (onTree (state (f .tree))) lines (f .lines) from (f .next) at (f .at) piece out out′
   pub sound : Sound (state (f .tree))
   pub spent : NoMore (f .lines) (f .next) piece

@@ -18,7 +18,7 @@ ghost use Rattle.tree_check.specs.Whole.{whole};
 ghost use Rattle.tree.specs.View.{state};
 ghost use Rattle.log_text.specs.Wrote.{Wrote};
 ghost use Rattle.log_rules.specs.Pieces.{Onward, NoMore};
-ghost use Rattle.log_tree.specs.Run.{Ready, Answered, Inside, TreeWent, Fits, Fed};
+ghost use Rattle.log_tree.specs.Run.{Ready, TreeLineAnswered, Inside, TreeWent, Fits, LinesFed};
 
 // Where a run stands: the tree beside its columns, the lines answered, the index of the next line in the piece, and of the next answer
 // in the buffer.
@@ -74,7 +74,7 @@ fn step_line(
     out: &mut [u8],
 ) -> TreeRun
     requires { ⌜ Ready r (whole (r .rest) (now active) (now engager) (now unacked) (now transit) (now acks)) (now out) ⌝ }
-    ensures { λ t. ⌜ Answered r t (whole (r .rest) (now (active .entry)) (now (engager .entry)) (now (unacked .entry)) (now (transit .entry)) (now (acks .entry)))
+    ensures { λ t. ⌜ TreeLineAnswered r t (whole (r .rest) (now (active .entry)) (now (engager .entry)) (now (unacked .entry)) (now (transit .entry)) (now (acks .entry)))
         (whole (t .rest) (now (active .exit)) (now (engager .exit)) (now (unacked .exit)) (now (transit .exit)) (now (acks .exit)))
         (TreeLine.Step f end) end (now (out .entry)) (now (out .exit)) ⌝ }
 {
@@ -192,7 +192,7 @@ pub fn tree_piece(
     at: usize,
 ) -> TreeFed
     requires { ⌜ Fits (state tree) lines (now piece) from (now out) at ⌝ }
-    ensures { λ f. ⌜ Fed (state tree) lines (now (piece .entry)) from (now (out .entry)) at f (now (out .exit)) ⌝ }
+    ensures { λ f. ⌜ LinesFed (state tree) lines (now (piece .entry)) from (now (out .entry)) at f (now (out .exit)) ⌝ }
 {
     let rest = rest_of(tree);
     let mut active = tree.active;

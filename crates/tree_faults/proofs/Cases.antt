@@ -19,7 +19,7 @@ use Rattle.tree_faults.proofs.Reader.{large, not-there, small}
 use Rattle.tree_faults.proofs.Searches.{written-from}
 use Rattle.tree_faults.proofs.Theorems.{place-after, place-is, tree-of}
 use Rattle.tree_faults.specs.Cases.{AllCases}
-use Rattle.tree_faults.specs.Theorems.{Near, WholeText, Written}
+use Rattle.tree_faults.specs.Theorems.{BeginsWritten, Near, WholeText}
 use Rattle.tree_faults.specs.Trees.{AllBelow, Ascends, Nodes, node, nodesText, none}
 use Rattle.tree_text.proofs.Lists.{alone, blank}
 use Rattle.tree_text.specs.Read.{andThen, bodyOf, closed, entered, listOf, nodeBy, nodeOf, readOf}
@@ -157,10 +157,10 @@ module _ (n k : ℕ) (last-number : n ≤ k + 1) where
         (W .text
         ∙ (ap (λ (l : List ℕ). l ++ W .rest) (L .1) ∙ (append-assoc gap (L .0) (W .rest) ∙ append-assoc upto (space ∷ []) (L .0 ++ W .rest))))
 
-    last-is : Written n upto → N .last ≡ length upto
+    last-is : BeginsWritten n upto → N .last ≡ length upto
     last-is here =
         let front : take (length upto) s ≡ upto = ap (take (length upto)) is ∙ take-append-seam upto (space ∷ z) in
-        let least = N .longest (length upto) (omega (arith, ap length is, length-append upto (space ∷ z))) (subst (Written n) (sym front) here) in
+        let least = N .longest (length upto) (omega (arith, ap length is, length-append upto (space ∷ z))) (subst (BeginsWritten n) (sym front) here) in
         elim (decLt (length upto) (N .last)) [ yes l ↦ absurd (no-further l) | no g ↦ omega (arith, least) ]
 
 pub all-cases : AllCases

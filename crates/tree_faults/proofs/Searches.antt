@@ -12,7 +12,7 @@ use Rattle.refusal.proofs.Table.{not-both}
 use Rattle.refusal.specs.declared.Verdict.{Verdict}
 use Rattle.refusal.specs.declared.Verdict.the-variants.{Accepted}
 use Rattle.tree_faults.proofs.Numbers.{heads}
-use Rattle.tree_faults.specs.Theorems.{Written}
+use Rattle.tree_faults.specs.Theorems.{BeginsWritten}
 use Rattle.tree_text.proofs.Steps.{verdict-of}
 use Rattle.tree_text.proofs.Theorems.{read-back, read-exact}
 use Rattle.tree_text.specs.Read.{readOf}
@@ -119,7 +119,7 @@ accepted v = elim (verdict-of v) [ inl a ↦ yes a | inr w ↦ no (λ a. not-bot
 
 -- ---- the text of a tree
 
-pub written-from : (n : ℕ) (s u rest : List ℕ) → readOf n s .verdict ≡ Accepted → s ≡ u ++ rest → Written n u
+pub written-from : (n : ℕ) (s u rest : List ℕ) → readOf n s .verdict ≡ Accepted → s ≡ u ++ rest → BeginsWritten n u
 written-from n s u rest a is = record {
   engagers = readOf n s .engager;
   root = readOf n s .root;
@@ -143,7 +143,7 @@ module _ (n : ℕ) (u : List ℕ) (n16 : n ≤ 16) where
   abbrev Rooted : List ℕ → Type 0
   Rooted e = (root : ℕ) × (root < n) × Begun e root
 
-  found : Small 16 Rooted → Written n u
+  found : Small 16 Rooted → BeginsWritten n u
   found w =
       let R = w .holds in
       let t = textOf (w .list) (R .0) in
@@ -156,7 +156,7 @@ module _ (n : ℕ) (u : List ℕ) (n16 : n ≤ 16) where
         | no g ↦ omega (arith, T .unused i (omega arith) h)
       ]
 
-  finds : Written n u → Small 16 Rooted
+  finds : BeginsWritten n u → Small 16 Rooted
   finds w =
       let T = w .tree in
       let read = ap (λ (x : Found). x .verdict) (read-back .tree n (w .engagers) (w .root) T) in
@@ -167,5 +167,5 @@ module _ (n : ℕ) (u : List ℕ) (n16 : n ≤ 16) where
         holds = (w .root, T .root-in, (read, ap (take (length u)) (w .text) ∙ take-append-seam u (w .rest)));
       }
 
-  pub written-or-not : Dec (Written n u)
+  pub written-or-not : Dec (BeginsWritten n u)
   written-or-not = map-dec found finds (some-list 16 Rooted (λ e. some-below n (Begun e) (begun e)))

@@ -25,7 +25,7 @@ use Rattle.tree_faults.proofs.Numbers.{longer, same-front, some-digit}
 use Rattle.tree_faults.proofs.Places.{Complete, FaultAt, FaultTo, Large, NodeText, never, ten-of}
 use Rattle.tree_faults.proofs.Reader.{root-fault, same-refusal}
 use Rattle.tree_faults.proofs.Searches.{greatest, written-from, written-or-not}
-use Rattle.tree_faults.specs.Theorems.{Begins, Fault, FirstFault, Near, NumberTo, OpenedTo, WholeText, Written}
+use Rattle.tree_faults.specs.Theorems.{BeginsText, BeginsWritten, Fault, FirstFault, Near, NumberTo, OpenedTo, WholeText}
 use Rattle.tree_faults.specs.Trees.{node, nodesText, none, treeText}
 use Rattle.tree_text.proofs.Given.{node-read}
 use Rattle.tree_text.proofs.Lists.{Lists, alone, alone-places, bare, blank, none as no-more}
@@ -91,7 +91,7 @@ fault-to : (n : ℕ) (s : List ℕ) (f : Refusal) (place : ℕ) → FaultTo s n 
 fault-to n s f place F = record {
   place = place;
   inside = omega (arith, F .ends, simp length-append at (ap length (F .split)));
-  begins = subst (Begins n) (sym front) whole;
+  begins = subst (BeginsText n) (sym front) whole;
   longest = longest;
   six = F .six;
   ten = ten-of s n place (F .six) (F .ten);
@@ -103,7 +103,7 @@ fault-to n s f place F = record {
     front : take place s ≡ F .upto
     front = ap (take place) (F .split) ∙ (ap (λ (i : ℕ). take i (F .upto ++ F .beyond)) size ∙ take-append-seam (F .upto) (F .beyond))
 
-    whole : Begins n (F .upto)
+    whole : BeginsText n (F .upto)
     whole = record {
       root = F .fits .k;
       children = F .fits .children;
@@ -113,7 +113,7 @@ fault-to n s f place F = record {
       below = λ v e w h. omega (arith, F .below v e (widen s (F .upto) (F .beyond) (F .split) v e (omega arith) w) (omega arith) (omega arith));
     }
 
-    longest : (p : ℕ) → p ≤ length s → Begins n (take p s) → p ≤ place
+    longest : (p : ℕ) → p ≤ length s → BeginsText n (take p s) → p ≤ place
     longest p h B =
         let u = take p s in
         let is : s ≡ u ++ drop p s = sym (take-append-drop p s) in
@@ -187,7 +187,7 @@ module _ (n : ℕ) (s : List ℕ) (W : WholeText n s) where
           let left = simp (length-drop, length-append) at (ap length (w .number .text)) in
           omega (arith, decimal-some v, left)
 
-  begins-with : (u rest : List ℕ) → s ≡ u ++ rest → Begins n u
+  begins-with : (u rest : List ℕ) → s ≡ u ++ rest → BeginsText n u
   begins-with u rest is = record {
     root = W .root;
     children = W .children;
@@ -211,7 +211,7 @@ too-long : (n : ℕ) (s w D : List ℕ) → WholeText n w → s ≡ w ++ D → F
 too-long n s w D W is = record {
   place = length w;
   inside = omega (arith, simp length-append at (ap length is));
-  begins = subst (Begins n) (sym (ap (take (length w)) is ∙ take-append-seam w D)) (begins-with n w W w [] (sym (append-nil w)));
+  begins = subst (BeginsText n) (sym (ap (take (length w)) is ∙ take-append-seam w D)) (begins-with n w W w [] (sym (append-nil w)));
   longest = λ p h B. elim (decLt (length w) p) [ no g ↦ omega arith | yes l ↦ absurd (longer-still p h B l) ];
   six = six;
   ten = ten-of s n (length w) six (inr refl);
@@ -241,7 +241,7 @@ too-long n s w D W is = record {
     six : (NotAForm ≡ UnknownNode) ↔ Large s n (length w)
     six = never s n (length w) (λ x. no-number-to s q (ap digitB bracket) (x .0) (subst (NumberTo s (x .0)) last (x .1)))
 
-    longer-still : (p : ℕ) → p ≤ length s → Begins n (take p s) → length w < p → ⊥
+    longer-still : (p : ℕ) → p ≤ length s → BeginsText n (take p s) → length w < p → ⊥
     longer-still p h B l =
         let size : length (take p s) ≡ p = length-take-le p s h in
         let L = longer w D (take p s) (drop p s) (sym is ∙ sym (take-append-drop p s)) (omega arith) in
@@ -293,17 +293,17 @@ refused-at n s e h n16 r =
 
 -- ---- by the texts of trees of n nodes
 
-begins-written : (n : ℕ) (u : List ℕ) → Written n u → Begins n u
+begins-written : (n : ℕ) (u : List ℕ) → BeginsWritten n u → BeginsText n u
 begins-written n u w = begins-with n (textOf (w .engagers) (w .root)) (tree-of n (w .engagers) (w .root) (w .tree)) u (w .rest) (w .text)
 
 -- the node that is being opened at the place, and what stands before it
 record Opening (n : ℕ) (s : List ℕ) (place : ℕ) : Type 0 where
   from : ℕ
   before : from ≤ place
-  written : Written n (take from s)
+  written : BeginsWritten n (take from s)
   opened : OpenedTo s from place
 
-opening-of : (n : ℕ) (s : List ℕ) (place : ℕ) → 0 < n → n ≤ 16 → place ≤ length s → Begins n (take place s) → Opening n s place
+opening-of : (n : ℕ) (s : List ℕ) (place : ℕ) → 0 < n → n ≤ 16 → place ≤ length s → BeginsText n (take place s) → Opening n s place
 opening-of n s place h n16 fits B =
     elim (decLt (1 + length (decimal k)) (length u)) [ no g ↦ at-root (omega arith) | yes l ↦ under-root l ]
   where
@@ -319,7 +319,7 @@ opening-of n s place h n16 fits B =
     complete : Complete all n (length u)
     complete v end w l = B .below v end (narrow all u (B .rest) (B .text) v end l w) l
 
-    whole-written : {t : List ℕ} (v rest : List ℕ) → WholeText n t → t ≡ v ++ rest → Written n v
+    whole-written : {t : List ℕ} (v rest : List ℕ) → WholeText n t → t ≡ v ++ rest → BeginsWritten n v
     whole-written {t} v rest W = written-from n t v rest (whole-read n t W h n16)
 
     -- the root is
@@ -338,7 +338,7 @@ opening-of n s place h n16 fits B =
     under-root l = record {
       from = length (C .kept);
       before = omega (arith, length-take-le place s fits, simp length-append at (ap length (C .split)));
-      written = subst (Written n) (sym front) (whole-written (C .kept) (C .rest) whole (C .is));
+      written = subst (BeginsWritten n) (sym front) (whole-written (C .kept) (C .rest) whole (C .is));
       opened = record {
         part = C .opened;
         is = C .split ∙ ap (λ (x : List ℕ). x ++ C .opened) (sym front);
@@ -379,7 +379,7 @@ opening-of n s place h n16 fits B =
 near-of : (n : ℕ) (s : List ℕ) (e : Refusal) → 0 < n → n ≤ 16 → (F : Fault n s e) → Near n s (F .place)
 near-of n s e h n16 F =
     let O = opening-of n s (F .place) h n16 (F .inside) (F .begins) in
-    let G = greatest (λ p. Written n (take p s)) (λ p. written-or-not n (take p s) n16) (O .from) (F .place) (O .written) (O .before) in
+    let G = greatest (λ p. BeginsWritten n (take p s)) (λ p. written-or-not n (take p s) n16) (O .from) (F .place) (O .written) (O .before) in
     record {
       last = G .last;
       written = G .holds;

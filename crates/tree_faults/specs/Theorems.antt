@@ -27,7 +27,7 @@ LargeTo n s end = (v : ℕ) × NumberTo s v end × (n ≤ v)
 
 -- u is the beginning of the text of a tree. A number that is complete in u, so that another byte of u follows it, is below n; the one that
 -- u breaks off in, and those after u, may be of any size.
-pub record Begins (n : ℕ) (u : List ℕ) : Type 0 where
+pub record BeginsText (n : ℕ) (u : List ℕ) : Type 0 where
   pub root : ℕ
   pub children : Nodes
   pub rest : List ℕ
@@ -40,15 +40,15 @@ pub record Fault (n : ℕ) (s : List ℕ) (e : Refusal) : Type 0 where
   pub place : ℕ
   pub inside : place ≤ length s
   -- up to there s is the beginning of a tree's text, and no further
-  pub begins : Begins n (take place s)
-  pub longest : (p : ℕ) → p ≤ length s → Begins n (take p s) → p ≤ place
+  pub begins : BeginsText n (take place s)
+  pub longest : (p : ℕ) → p ≤ length s → BeginsText n (take p s) → p ≤ place
   -- "where a number belongs, one without leading zero, read to its last digit, of N or more is 6"
   pub six : (e ≡ UnknownNode) ↔ LargeTo n s place
   -- "anything else, such as a leading zero, a repeated board, other spacing or order, is 10"
   pub ten : (e ≡ NotAForm) ↔ (LargeTo n s place → ⊥)
 
 -- u is the beginning of the text of a tree of n nodes
-pub record Written (n : ℕ) (u : List ℕ) : Type 0 where
+pub record BeginsWritten (n : ℕ) (u : List ℕ) : Type 0 where
   pub engagers : List ℕ
   pub root : ℕ
   pub rest : List ℕ
@@ -71,8 +71,8 @@ pub record OpenedTo (s : List ℕ) (from place : ℕ) : Type 0 where
 pub record Near (n : ℕ) (s : List ℕ) (place : ℕ) : Type 0 where
   -- up to `last` s is the beginning of such a text, and no further
   pub last : ℕ
-  pub written : Written n (take last s)
-  pub longest : (p : ℕ) → p ≤ length s → Written n (take p s) → p ≤ last
+  pub written : BeginsWritten n (take last s)
+  pub longest : (p : ℕ) → p ≤ length s → BeginsWritten n (take p s) → p ≤ last
   -- the fault is there, or later in the opening of the same node
   pub from : ℕ
   pub before : from ≤ last
@@ -92,6 +92,6 @@ pub record FirstFault : Type 0 where
   -- these trees are those that the reader accepts
   pub accepted : (n : ℕ) (s : List ℕ) → 0 < n → n ≤ 16 → (readOf n s .verdict ≡ Accepted) ↔ WholeText n s
   -- and what the text of a tree of n nodes begins with is such a beginning
-  pub written : (n : ℕ) (e : List ℕ) (root : ℕ) (u rest : List ℕ) → EngagementTree n e root → textOf e root ≡ u ++ rest → Begins n u
+  pub written : (n : ℕ) (e : List ℕ) (root : ℕ) (u rest : List ℕ) → EngagementTree n e root → textOf e root ≡ u ++ rest → BeginsText n u
   -- by the texts of trees of n nodes alone the fault is there too, or earlier in the opening of the same node
   pub near : (n : ℕ) (s : List ℕ) (e : Refusal) → 0 < n → n ≤ 16 → (F : Fault n s e) → Near n s (F .place)

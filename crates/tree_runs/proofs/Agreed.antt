@@ -21,7 +21,7 @@ use Rattle.tree_rules.specs.Soundness.{Open, Resting, Sound}
 use Rattle.tree_rules.specs.State.{State, activeAt, engagerAt}
 use Rattle.tree_runs.proofs.Change.{null-engaged}
 use Rattle.tree_runs.proofs.Steps.{action-rule, of-signal, rule-action, signal-of}
-use Rattle.tree_runs.specs.Agreement.{AcceptsStep, Answered, SendAllowed, at-limit, matched, rootOf, shown, shownAfter, to-oneself}
+use Rattle.tree_runs.specs.Agreement.{AcceptsStep, RuleAnswered, SendAllowed, at-limit, matched, rootOf, shown, shownAfter, to-oneself}
 use Rattle.tree_runs.specs.DijkstraScholten.{Addr, SendDAT, SignalTermination, Step, Systems, deactivate, disengage, receive-ACK, receive-DAT, send-DAT}
 use Rattle.tree_runs.specs.View.{Action, is-ack, is-announce, is-idle, is-leave, is-send, is-take, systemsOf}
 
@@ -89,7 +89,7 @@ module _ (t : State) (ok : Sound t) where
         let e = accepted t (kindOf k) i j open-here (l .rule) in
         (e, made k i j e ∙ l .there)
 
-    answered : (k i j : ℕ) (u : Systems (t .n)) → Action a0 (shown t) u (kindOf k) i j → SendAllowed t k i j → Answered t ok u
+    answered : (k i j : ℕ) (u : Systems (t .n)) → Action a0 (shown t) u (kindOf k) i j → SendAllowed t k i j → RuleAnswered t ok u
     answered k i j u a room = let p = rule-accepted k i j u a room in matched k i j (p .0) (p .1)
 
     inside : (i j : Addr (t .n)) → outside t Send (i .nr) (j .nr) ≡ false
@@ -104,7 +104,7 @@ module _ (t : State) (ok : Sound t) where
         ap (λ (x : Answer). x .verdict)
         (sym (limit-answer t Send (i .nr) (j .nr) open-here refl (inside i j) (ne-eqb _ _ ne) act (le-leb _ _ full)))
 
-    send-answered : (u : Systems (t .n)) (i j : Addr (t .n)) → SendDAT i j (shown t) u → Answered t ok u
+    send-answered : (u : Systems (t .n)) (i j : Addr (t .n)) → SendDAT i j (shown t) u → RuleAnswered t ok u
     send-answered u i j x =
         elim (ℕ-discrete (i .nr) (j .nr)) [
           | yes e ↦ to-oneself i j e x (self-7 i j e)
@@ -114,7 +114,7 @@ module _ (t : State) (ok : Sound t) where
           ]
         ]
 
-    open-answered : (u : Systems (t .n)) → Step a0 (shown t) u → Answered t ok u
+    open-answered : (u : Systems (t .n)) → Step a0 (shown t) u → RuleAnswered t ok u
     open-answered u (deactivate i x) = answered 3 (i .nr) 0 u (is-idle i x) (λ e. other-kind (sym e) refl)
     open-answered u (send-DAT i j x) = send-answered u i j x
     open-answered u (receive-DAT i k x) = answered 2 (i .nr) (k .nr) u (is-take i k x) (λ e. other-kind (sym e) refl)
@@ -146,7 +146,7 @@ module _ (t : State) (ok : Sound t) where
           null-engaged (engagerAt t (i .nr)) (x .may .engaged)
           (alone t (facts t ok) (c .settled) (i .nr) (omega (arith, i .below, ok .nodes)) ne)
 
-  pub step-answered : (u : Systems (t .n)) → Step a0 (shown t) u → Answered t ok u
+  pub step-answered : (u : Systems (t .n)) → Step a0 (shown t) u → RuleAnswered t ok u
   step-answered u x =
       elim (split (t .closed)) [
         | inl c ↦ absurd (signal-last (signalled (conclusive-true t (ok .announced c))) u x)

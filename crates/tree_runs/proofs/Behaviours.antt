@@ -24,7 +24,7 @@ use Rattle.tree_runs.proofs.Steps.{action-rule, rule-action}
 use Rattle.tree_rules.proofs.Fields.{same-n, same-root}
 use Rattle.tree_runs.proofs.Trace.{closed-step}
 use Rattle.tree_runs.proofs.Traced.{may, sound-after, traced}
-use Rattle.tree_runs.specs.Agreement.{Reachable, RunTo, SendAllowed, ToAnother, initial, later, rootOf, sendsIn}
+use Rattle.tree_runs.specs.Agreement.{Reachable, RunTo, SendAllowed, ToAnother, initial, later, rootOf, sendsOf}
 use Rattle.tree_runs.specs.Counts.{isAnnounce, kind, tree}
 use Rattle.tree_runs.specs.DijkstraScholten.{Addr, Initial, Step, Systems, deactivate, disengage, receive-ACK, receive-DAT, send-DAT, start}
 use Rattle.tree_runs.specs.View.{Action, is-ack, is-announce, is-idle, is-leave, is-send, is-take, systemsOf}
@@ -162,7 +162,7 @@ module _ (t : State) (ok : Sound t) (running : t .closed ≡ false) where
 
   by-step :
       (u : Systems (t .n)) (a : Step (rootOf t ok) (systemsOf (t .n) t) u) → ToAnother (rootOf t ok) a
-      → t .sends + sendsIn (rootOf t ok) a ≤ sendLimit → One (t .n) t u (sendsIn (rootOf t ok) a)
+      → t .sends + sendsOf (rootOf t ok) a ≤ sendLimit → One (t .n) t u (sendsOf (rootOf t ok) a)
   by-step u (deactivate i x) w h = by-rule 3 (i .nr) 0 u (is-idle i x) (λ e. other-kind (sym e) refl) refl
   by-step u (send-DAT i j x) w h = by-rule 1 (i .nr) (j .nr) u (is-send i j x) (λ e. (omega arith, w)) refl
   by-step u (receive-DAT i k x) w h = by-rule 2 (i .nr) (k .nr) u (is-take i k x) (λ e. other-kind (sym e) refl) refl
@@ -172,12 +172,12 @@ module _ (t : State) (ok : Sound t) (running : t .closed ≡ false) where
   -- the same for N and a0, and s what t shows
   one :
       {N : ℕ} (a0 : Addr N) → t .n ≡ N → t .root ≡ a0 .nr → {s : Systems N} → systemsOf N t ≡ s
-      → (u : Systems N) (a : Step a0 s u) → ToAnother a0 a → t .sends + sendsIn a0 a ≤ sendLimit → One N t u (sendsIn a0 a)
+      → (u : Systems N) (a : Step a0 s u) → ToAnother a0 a → t .sends + sendsOf a0 a ≤ sendLimit → One N t u (sendsOf a0 a)
   one {N} a0 size e {s} p =
-      subst (λ (v : Systems N). (u : Systems N) (a : Step a0 v u) → ToAnother a0 a → t .sends + sendsIn a0 a ≤ sendLimit → One N t u (sendsIn a0 a)) p
+      subst (λ (v : Systems N). (u : Systems N) (a : Step a0 v u) → ToAnother a0 a → t .sends + sendsOf a0 a ≤ sendLimit → One N t u (sendsOf a0 a)) p
       (moved
-      (λ M b. (u : Systems M) (a : Step b (systemsOf M t) u) → ToAnother b a → t .sends + sendsIn b a ≤ sendLimit → One M t u
-      (sendsIn b a)) t ok by-step a0 size e)
+      (λ M b. (u : Systems M) (a : Step b (systemsOf M t) u) → ToAnother b a → t .sends + sendsOf b a ≤ sendLimit → One M t u
+      (sendsOf b a)) t ok by-step a0 size e)
 
 module _ {N : ℕ} (a0 : Addr N) (small : N ≤ 16) where
   -- one request more
@@ -206,7 +206,7 @@ module _ {N : ℕ} (a0 : Addr N) (small : N ≤ 16) where
         there = initial-start a0 small s i;
       }
 
-  run-more : {s u : Systems N} {m : ℕ} (w : RunTo a0 s m) (a : Step a0 s u) → ToAnother a0 a → m + sendsIn a0 a ≤ sendLimit → RunTo a0 u (m + sendsIn a0 a)
+  run-more : {s u : Systems N} {m : ℕ} (w : RunTo a0 s m) (a : Step a0 s u) → ToAnother a0 a → m + sendsOf a0 a ≤ sendLimit → RunTo a0 u (m + sendsOf a0 a)
   unfolding first
   run-more {u = u} w a other h =
       let p = traced (first a0 small) (first-sound a0 small) (w .requests) in

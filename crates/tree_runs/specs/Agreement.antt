@@ -48,10 +48,10 @@ SendAllowed t k i j = kindOf k ≡ Send → (t .sends < sendLimit) × (i ≢ j)
 
 -- a step of document 003 to u is answered: some request is accepted and leads to u; or it is a message to oneself, refused with 7, or a
 -- send at the limit, refused with 9
-pub data Answered (t : State) (ok : Sound t) (u : Systems (t .n)) : Type 0 where
-  matched : (k i j : ℕ) → AcceptsStep t k i j → shownAfter t k i j ≡ u → Answered t ok u
-  to-oneself : (i j : Addr (t .n)) → i .nr ≡ j .nr → SendDAT i j (shown t) u → stepOf t 1 (i .nr) (j .nr) .verdict ≡ Refused SelfMessage → Answered t ok u
-  at-limit : (i j : Addr (t .n)) → SendDAT i j (shown t) u → sendLimit ≤ t .sends → stepOf t 1 (i .nr) (j .nr) .verdict ≡ Refused SendLimit → Answered t ok u
+pub data RuleAnswered (t : State) (ok : Sound t) (u : Systems (t .n)) : Type 0 where
+  matched : (k i j : ℕ) → AcceptsStep t k i j → shownAfter t k i j ≡ u → RuleAnswered t ok u
+  to-oneself : (i j : Addr (t .n)) → i .nr ≡ j .nr → SendDAT i j (shown t) u → stepOf t 1 (i .nr) (j .nr) .verdict ≡ Refused SelfMessage → RuleAnswered t ok u
+  at-limit : (i j : Addr (t .n)) → SendDAT i j (shown t) u → sendLimit ≤ t .sends → stepOf t 1 (i .nr) (j .nr) .verdict ≡ Refused SendLimit → RuleAnswered t ok u
 
 pub record StepsAgree (t : State) (ok : Sound t) : Type 0 where
   -- ADDR and a0 are constants
@@ -70,7 +70,7 @@ pub record StepsAgree (t : State) (ok : Sound t) : Type 0 where
       ⊎ ((kindOf k ≡ Announce) × SignalTermination (rootOf t ok) (shown t) × (shownAfter t k i j ≡ shown t))
   pub refused-is-same : (k i j : ℕ) → (AcceptsStep t k i j → ⊥) → shownAfter t k i j ≡ shown t
   -- and every step, from any sound state, is answered
-  pub step-is-answered : (u : Systems (t .n)) → Step (rootOf t ok) (shown t) u → Answered t ok u
+  pub step-is-answered : (u : Systems (t .n)) → Step (rootOf t ok) (shown t) u → RuleAnswered t ok u
   -- announce is the root's disengage; there the system has terminated, and no step is left, so that closing the run takes none away
   pub announce-is-signal : t .closed ≡ false → (i j : ℕ) → AcceptsStep t 6 i j ↔ SignalTermination (rootOf t ok) (shown t)
   pub signal-is-last : SignalTermination (rootOf t ok) (shown t) → (u : Systems (t .n)) → Step (rootOf t ok) (shown t) u → ⊥
@@ -83,12 +83,12 @@ pub record StepsAgree (t : State) (ok : Sound t) : Type 0 where
 -- ---- whole runs
 
 -- 1 for a message sent, else 0
-abbrev pub sendsIn : {N : ℕ} (a0 : Addr N) {s t : Systems N} → Step a0 s t → ℕ
-sendsIn a0 (deactivate j x) = 0
-sendsIn a0 (send-DAT j k x) = 1
-sendsIn a0 (receive-DAT j k x) = 0
-sendsIn a0 (receive-ACK j x) = 0
-sendsIn a0 (disengage j ne x) = 0
+abbrev pub sendsOf : {N : ℕ} (a0 : Addr N) {s t : Systems N} → Step a0 s t → ℕ
+sendsOf a0 (deactivate j x) = 0
+sendsOf a0 (send-DAT j k x) = 1
+sendsOf a0 (receive-DAT j k x) = 0
+sendsOf a0 (receive-ACK j x) = 0
+sendsOf a0 (disengage j ne x) = 0
 
 -- the step is no message to oneself
 abbrev pub ToAnother : {N : ℕ} (a0 : Addr N) {s t : Systems N} → Step a0 s t → Type 0
@@ -101,7 +101,7 @@ ToAnother a0 (disengage j ne x) = Unit
 -- systems that the rules reach from the initial ones, a message to oneself apart, with the number of messages sent on the way
 pub data Reachable {N : ℕ} (a0 : Addr N) : Systems N → ℕ → Type 0 where
   initial : {s : Systems N} → Initial a0 s → Reachable a0 s 0
-  later : {s t : Systems N} {m : ℕ} → Reachable a0 s m → (x : Step a0 s t) → ToAnother a0 x → Reachable a0 t (m + sendsIn a0 x)
+  later : {s t : Systems N} {m : ℕ} → Reachable a0 s m → (x : Step a0 s t) → ToAnother a0 x → Reachable a0 t (m + sendsOf a0 x)
 
 -- a run from the start, every request of it accepted and none an announcement, that ends where it shows u, with m sends
 pub record RunTo {N : ℕ} (a0 : Addr N) (u : Systems N) (m : ℕ) : Type 0 where

@@ -13,7 +13,7 @@ use Rattle.laws.proofs.Tests.{false-true}
 use Rattle.log_finish.specs.Theorems.{Feeds, no-piece, piece}
 use Rattle.log_state.specs.Feed.{Good, decided}
 use Rattle.log_state.specs.declared.Log.{Log}
-use Rattle.watch.specs.Run.{Pumped, Turns, another, isEnd, last, pieceOf, ran-out, textOf}
+use Rattle.watch.specs.Run.{Pumped, Turns, another, answersOf, isEnd, last, pieceOf, ran-out}
 use Rattle.watch.specs.Turn.{Answers, Turned, after}
 use Rattle.watch.specs.declared.Step.{Step}
 
@@ -35,11 +35,11 @@ module _ {n : ℕ} {l : Log} {buffer line line₁ out out₁ : List ℕ} {s₁ :
   pub last-turn : s₁ .more ≡ false → Pumped n l line s₁ line₁
   last-turn e = record {
     pieces = pieceOf t ∷ [];
-    texts = textOf t;
+    texts = answersOf t;
     end = _;
     turns = last some t e;
     fed =
-        subst (λ (x : List ℕ). Feeds l line (pieceOf t ∷ []) x (s₁ .log) line₁) (append-nil (textOf t))
+        subst (λ (x : List ℕ). Feeds l line (pieceOf t ∷ []) x (s₁ .log) line₁) (append-nil (answersOf t))
         (piece (record { log = s₁ .log; count = s₁ .count }) (answered-by t) no-piece);
     good = answered-by t .good;
   }
@@ -47,7 +47,7 @@ module _ {n : ℕ} {l : Log} {buffer line line₁ out out₁ : List ℕ} {s₁ :
   pub one-more : s₁ .more ≡ true → (s : Step) (line′ : List ℕ) → Pumped (n - 1) (s₁ .log) line₁ s line′ → Pumped n l line s line′
   one-more e s line′ later = record {
     pieces = pieceOf t ∷ later .pieces;
-    texts = textOf t ++ later .texts;
+    texts = answersOf t ++ later .texts;
     end = later .end;
     turns = another some t e (later .turns);
     fed = piece (record { log = s₁ .log; count = s₁ .count }) (answered-by t) (later .fed);

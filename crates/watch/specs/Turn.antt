@@ -19,7 +19,7 @@ Answers l n piece s line line′ out out′ =
 
 -- What is made of a piece where read has answered `got`: that many of its bytes are answered, none where it is 0 or less. The program
 -- goes on if there were any and the log is not decided; a number below 0 is a failure.
-pub record Answered (l : Log) (piece : List ℕ) (got : ℤ) (s : Step) (line line′ out out′ : List ℕ) : Type 0 where
+pub record PieceAnswered (l : Log) (piece : List ℕ) (got : ℤ) (s : Step) (line line′ out out′ : List ℕ) : Type 0 where
   pub answers : Answers l (clamped got (length piece)) piece s line line′ out out′
   pub more : s .more ≡ (ltZ (pos 0) got && not (decided (s .log)))
   pub failed : s .failed ≡ ltZ got (pos 0)
@@ -33,6 +33,6 @@ after s written = record { log = s .log; count = s .count; more = s .more && wri
 pub record Turned (l : Log) (piece : List ℕ) (s : Step) (line line′ out out′ : List ℕ) : Type 0 where
   pub got : ℤ
   pub step : Step
-  pub answered : Answered l piece got step line line′ out out′
+  pub answered : PieceAnswered l piece got step line line′ out out′
   pub written : Bool
   pub turned : s ≡ after step written

@@ -4,8 +4,8 @@ ghost use mathlib.Core.Path.{_≡_};
 ghost use Prim.Native.Nat.{_+_, _*_, _≤_};
 ghost use lib.ListN.{length};
 ghost use Rattle.log_state.specs.Feed.{Good};
-ghost use Rattle.watch.specs.Turn.{Answered, after, Turned};
-ghost use Rattle.watch.specs.Run.{turnLimit, Pumped, Ran};
+ghost use Rattle.watch.specs.Turn.{PieceAnswered, after, Turned};
+ghost use Rattle.watch.specs.Run.{turnLimit, Pumped, ProgramRan};
 
 // The log after a piece, how many bytes of answers go to write, whether to go on, and whether a read or a write failed.
 pub struct Step {
@@ -18,7 +18,7 @@ pub struct Step {
 // The lines of a piece into which read has put its first `got` bytes, answered in `out`.
 fn answer(log: Log, piece: &[u8], got: isize, line: &mut [u8], out: &mut [u8]) -> Step
     requires { ⌜ Good log (now line) × ((length (now piece) + 700) * 16 ≤ length (now out)) ⌝ }
-    ensures { λ s. ⌜ Answered log (now (piece .entry)) got s (now (line .entry)) (now (line .exit)) (now (out .entry)) (now (out .exit)) ⌝ }
+    ensures { λ s. ⌜ PieceAnswered log (now (piece .entry)) got s (now (line .entry)) (now (line .exit)) (now (out .entry)) (now (out .exit)) ⌝ }
 {
     let n = io::count(got, piece);
     let f = log::feed(log, &piece[..n], line, out);
@@ -88,7 +88,7 @@ fn pump(first: Log, piece: &mut [u8], line: &mut [u8], out: &mut [u8]) -> Step
 // was read is not the whole log.
 fn run(piece: &mut [u8], line: &mut [u8], out: &mut [u8]) -> Step
     requires { ⌜ (length (now line) ≡ 700) × ((length (now piece) + 700) * 16 ≤ length (now out)) ⌝ }
-    ensures { λ s. ⌜ Ran s (now (out .exit)) ⌝ }
+    ensures { λ s. ⌜ ProgramRan s (now (out .exit)) ⌝ }
 {
     let s = pump(log::start(), piece, line, out);
     let log = s.log;
