@@ -220,7 +220,7 @@ pub extern "C" fn muzserlik_tree_write_fields(
 
 // A tree's text read: the number of the answer; the engagers and the root where it is accepted.
 #[no_mangle]
-pub extern "C" fn muzserlik_tree_read(
+pub extern "C" fn muzserlik_tree_read_fields(
     n: usize,
     s: &[u8],
     engager: &mut [u8; 16],

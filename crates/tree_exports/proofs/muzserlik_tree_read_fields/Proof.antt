@@ -1,7 +1,7 @@
 use borrow.Author.Needs.{needs}
 use Rattle.lent.proofs.Tree.{read-as}
-use Rattle.tree_exports.proofs.muzserlik_tree_read.Statement.{statement}
-use Rattle.tree_exports.proofs.muzserlik_tree_read.Tie as tie
+use Rattle.tree_exports.proofs.muzserlik_tree_read_fields.Statement.{statement}
+use Rattle.tree_exports.proofs.muzserlik_tree_read_fields.Tie as tie
 
 read-requires : tie.Need-read-requires
 read-requires c κs = tt
@@ -25,6 +25,6 @@ returns-2 c = let at-read = c .before .before .before in
     let v = c .before .enum-told .given .1 in
     read-as (at-read .read .result) (at-read .read .ensures) (rw v) (rw v) (rw v)
 
-pub muzserlik-tree-read-spec : {M : Type 1} → statement M
-muzserlik-tree-read-spec =
+pub muzserlik-tree-read-fields-spec : {M : Type 1} → statement M
+muzserlik-tree-read-fields-spec =
     tie.close (tie.spec read-requires enum-told enum-told-2 code-requires returns returns-2)
