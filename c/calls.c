@@ -1,0 +1,263 @@
+/*
+ * Each function of muzserlik.h called, its answer and every field after it compared with what the rules give, worked by hand. The ring and the
+ * tree are led to states whose fields differ from each other, so that no field can stand in another's place.
+ */
+#include "muzserlik.h"
+
+#include <stdio.h>
+#include <stdlib.h>
+#include <string.h>
+
+static int checks = 0;
+
+#define CHECK(what)                                             \
+    do {                                                        \
+        checks++;                                               \
+        if (!(what)) {                                          \
+            printf("calls.c:%d: not so: %s\n", __LINE__, #what); \
+            exit(EXIT_FAILURE);                                 \
+        }                                                       \
+    } while (0)
+
+#define SAME(field) (memcmp(&a->field, &b->field, sizeof a->field) == 0)
+
+static int same_rings(const struct muzserlik_ring *a, const struct muzserlik_ring *b)
+{
+    return SAME(n) && SAME(active) && SAME(color) && SAME(sent) && SAME(received) && SAME(pending) && SAME(pos) && SAME(q) && SAME(black)
+        && SAME(closed);
+}
+
+static int same_trees(const struct muzserlik_tree *a, const struct muzserlik_tree *b)
+{
+    return SAME(n) && SAME(root) && SAME(active) && SAME(engager) && SAME(unacked) && SAME(transit) && SAME(acks) && SAME(sends)
+        && SAME(closed);
+}
+
+/* The answer to a step that is refused; the ring is as it was. */
+static int ring_refusal(struct muzserlik_ring *ring, size_t kind, size_t i, size_t j)
+{
+    const struct muzserlik_ring before = *ring;
+    int answer = muzserlik_ring_step(ring, kind, i, j);
+    CHECK(same_rings(ring, &before));
+    return answer;
+}
+
+/* The answer to a drive that is refused; ring and moves are as they were. */
+static int drive_refusal(struct muzserlik_ring *ring, size_t limit)
+{
+    const struct muzserlik_ring before = *ring;
+    uint32_t moves = 77;
+    int answer = muzserlik_ring_drive(ring, limit, &moves);
+    CHECK(same_rings(ring, &before) && moves == 77);
+    return answer;
+}
+
+static int tree_refusal(struct muzserlik_tree *tree, size_t kind, size_t i, size_t j)
+{
+    const struct muzserlik_tree before = *tree;
+    int answer = muzserlik_tree_step(tree, kind, i, j);
+    CHECK(same_trees(tree, &before));
+    return answer;
+}
+
+static void ring_starts(struct muzserlik_ring *ring)
+{
+    const uint8_t flags[] = {1, 2, 3}, high[] = {1, 4, 0};
+    uint8_t many[97] = {0};
+    struct muzserlik_ring noise;
+    memset(&noise, 0xa5, sizeof noise);
+    *ring = noise;
+    CHECK(muzserlik_ring_start(ring, 0, flags, 0) == MUZSERLIK_REFUSED_NODE_COUNT);
+    CHECK(muzserlik_ring_start(ring, 97, many, 97) == MUZSERLIK_REFUSED_NODE_COUNT);
+    CHECK(muzserlik_ring_start(ring, (size_t)-1, flags, 3) == MUZSERLIK_REFUSED_NODE_COUNT);
+    CHECK(muzserlik_ring_start(ring, 3, flags, 2) == MUZSERLIK_REFUSED_START_FLAGS);
+    CHECK(muzserlik_ring_start(ring, 2, flags, 3) == MUZSERLIK_REFUSED_START_FLAGS);
+    CHECK(muzserlik_ring_start(ring, 3, NULL, 0) == MUZSERLIK_REFUSED_START_FLAGS);
+    CHECK(muzserlik_ring_start(ring, 3, high, 3) == MUZSERLIK_REFUSED_START_FLAGS);
+    CHECK(same_rings(ring, &noise));
+    CHECK(muzserlik_ring_start(ring, 96, many, 96) == MUZSERLIK_ACCEPTED);
+    *ring = noise;
+    CHECK(muzserlik_ring_start(ring, 3, flags, 3) == MUZSERLIK_ACCEPTED);
+    const struct muzserlik_ring first = {.n = 3, .active = {1, 0, 1}, .color = {6}, .black = 1};
+    CHECK(same_rings(ring, &first));
+}
+
+/* Node 1 received one of two messages; the token passed node 2, which was black, and is at node 1. */
+static void ring_steps(struct muzserlik_ring *ring)
+{
+    CHECK(muzserlik_ring_step(ring, MUZSERLIK_SEND, 0, 1) == MUZSERLIK_ACCEPTED);
+    CHECK(muzserlik_ring_step(ring, MUZSERLIK_SEND, 2, 1) == MUZSERLIK_ACCEPTED);
+    CHECK(muzserlik_ring_step(ring, MUZSERLIK_TAKE, 1, 99) == MUZSERLIK_ACCEPTED);
+    CHECK(muzserlik_ring_step(ring, MUZSERLIK_PROBE, 99, 99) == MUZSERLIK_ACCEPTED);
+    CHECK(muzserlik_ring_step(ring, MUZSERLIK_IDLE, 2, 99) == MUZSERLIK_ACCEPTED);
+    CHECK(muzserlik_ring_step(ring, MUZSERLIK_PASS, 2, 99) == MUZSERLIK_ACCEPTED);
+    const struct muzserlik_ring now = {.n = 3,
+                                       .active = {1, 1, 0},
+                                       .color = {2},
+                                       .sent = {1, 0, 1},
+                                       .received = {0, 1, 0},
+                                       .pending = {0, 1, 0},
+                                       .pos = 1,
+                                       .q = 1,
+                                       .black = 1};
+    CHECK(same_rings(ring, &now));
+    CHECK(muzserlik_ring_is_sound(ring) == 1);
+    const size_t unknown[] = {0, 7, 255, 256, 257, 262, ((size_t)1 << 32) + 1, (size_t)-1};
+    for (size_t k = 0; k < sizeof unknown / sizeof unknown[0]; k++)
+        CHECK(ring_refusal(ring, unknown[k], 0, 1) == MUZSERLIK_REFUSED_UNKNOWN_KIND);
+    CHECK(ring_refusal(ring, MUZSERLIK_SEND, 0, 3) == MUZSERLIK_REFUSED_UNKNOWN_NODE);
+    CHECK(ring_refusal(ring, MUZSERLIK_SEND, (size_t)-1, 0) == MUZSERLIK_REFUSED_UNKNOWN_NODE);
+    CHECK(ring_refusal(ring, MUZSERLIK_SEND, 2, 2) == MUZSERLIK_REFUSED_SELF_MESSAGE);
+    CHECK(ring_refusal(ring, MUZSERLIK_SEND, 2, 0) == MUZSERLIK_REFUSED_RULE_FAILS);
+    CHECK(ring_refusal(ring, MUZSERLIK_PASS, 1, 0) == MUZSERLIK_REFUSED_RULE_FAILS);
+}
+
+/* A byte that is no truth, in a place that no node uses. */
+static void ring_unsound(struct muzserlik_ring *ring)
+{
+    ring->active[95] = 2;
+    CHECK(muzserlik_ring_is_sound(ring) == 0);
+    CHECK(ring_refusal(ring, MUZSERLIK_IDLE, 1, 0) == MUZSERLIK_REFUSED_UNSOUND);
+    CHECK(drive_refusal(ring, 5) == MUZSERLIK_REFUSED_UNSOUND);
+    ring->active[95] = 0;
+}
+
+static void ring_drives(struct muzserlik_ring *ring)
+{
+    uint32_t moves = 77;
+    CHECK(drive_refusal(ring, 1001) == MUZSERLIK_REFUSED_MOVE_LIMIT);
+    CHECK(drive_refusal(ring, ((size_t)1 << 32) + 5) == MUZSERLIK_REFUSED_MOVE_LIMIT);
+    CHECK(muzserlik_ring_drive(ring, 10, &moves) == MUZSERLIK_WAITING && moves == 0);
+    CHECK(muzserlik_ring_step(ring, MUZSERLIK_IDLE, 1, 0) == MUZSERLIK_ACCEPTED);
+    CHECK(muzserlik_ring_drive(ring, 1, &moves) == MUZSERLIK_SPENT && moves == 1);
+    const struct muzserlik_ring now = {
+        .n = 3, .active = {1, 0, 0}, .sent = {1, 0, 1}, .received = {0, 1, 0}, .pending = {0, 1, 0}, .q = 0, .black = 1};
+    CHECK(same_rings(ring, &now));
+    CHECK(muzserlik_ring_step(ring, MUZSERLIK_TAKE, 1, 0) == MUZSERLIK_ACCEPTED);
+    CHECK(muzserlik_ring_step(ring, MUZSERLIK_IDLE, 1, 0) == MUZSERLIK_ACCEPTED);
+    CHECK(muzserlik_ring_step(ring, MUZSERLIK_IDLE, 0, 0) == MUZSERLIK_ACCEPTED);
+    CHECK(ring_refusal(ring, MUZSERLIK_ANNOUNCE, 0, 0) == MUZSERLIK_REFUSED_RULE_FAILS);
+    /* two rounds: node 1 blackens the token in the first */
+    CHECK(muzserlik_ring_drive(ring, 1000, &moves) == MUZSERLIK_CONCLUSIVE && moves == 6);
+    CHECK(muzserlik_ring_step(ring, MUZSERLIK_ANNOUNCE, 0, 0) == MUZSERLIK_ACCEPTED);
+    const struct muzserlik_ring last = {.n = 3, .sent = {1, 0, 1}, .received = {0, 2, 0}, .q = -1, .closed = 1};
+    CHECK(same_rings(ring, &last));
+    CHECK(ring_refusal(ring, MUZSERLIK_PROBE, 0, 0) == MUZSERLIK_REFUSED_CLOSED);
+    CHECK(drive_refusal(ring, 5) == MUZSERLIK_REFUSED_CLOSED);
+}
+
+/* A sound ring at the limit of sends. */
+static void ring_limit(struct muzserlik_ring *ring)
+{
+    const uint8_t flags[] = {1, 0};
+    CHECK(muzserlik_ring_start(ring, 2, flags, 2) == MUZSERLIK_ACCEPTED);
+    ring->sent[0] = MUZSERLIK_SEND_LIMIT;
+    ring->received[1] = MUZSERLIK_SEND_LIMIT;
+    CHECK(ring_refusal(ring, MUZSERLIK_SEND, 0, 1) == MUZSERLIK_REFUSED_SEND_LIMIT);
+}
+
+static void tree_starts(struct muzserlik_tree *tree)
+{
+    struct muzserlik_tree noise;
+    memset(&noise, 0xa5, sizeof noise);
+    *tree = noise;
+    CHECK(muzserlik_tree_start(tree, 0, 0) == MUZSERLIK_REFUSED_NODE_COUNT);
+    CHECK(muzserlik_tree_start(tree, 17, 0) == MUZSERLIK_REFUSED_NODE_COUNT);
+    CHECK(muzserlik_tree_start(tree, 3, 3) == MUZSERLIK_REFUSED_UNKNOWN_NODE);
+    CHECK(muzserlik_tree_start(tree, 3, (size_t)-1) == MUZSERLIK_REFUSED_UNKNOWN_NODE);
+    CHECK(same_trees(tree, &noise));
+    CHECK(muzserlik_tree_start(tree, 3, 1) == MUZSERLIK_ACCEPTED);
+    struct muzserlik_tree first = {.n = 3, .root = 1, .active = {0, 1, 0}};
+    memset(first.engager, MUZSERLIK_TREE_NONE, sizeof first.engager);
+    first.engager[1] = 1;
+    CHECK(same_trees(tree, &first));
+}
+
+/* The root 1 engaged 2, which engaged 0; one acknowledgement is on its way to the root, one message to 0. */
+static void tree_steps(struct muzserlik_tree *tree)
+{
+    CHECK(muzserlik_tree_step(tree, MUZSERLIK_SEND, 1, 0) == MUZSERLIK_ACCEPTED);
+    CHECK(muzserlik_tree_step(tree, MUZSERLIK_SEND, 1, 2) == MUZSERLIK_ACCEPTED);
+    CHECK(muzserlik_tree_step(tree, MUZSERLIK_SEND, 1, 2) == MUZSERLIK_ACCEPTED);
+    CHECK(muzserlik_tree_step(tree, MUZSERLIK_TAKE, 2, 1) == MUZSERLIK_ACCEPTED);
+    CHECK(muzserlik_tree_step(tree, MUZSERLIK_TAKE, 2, 1) == MUZSERLIK_ACCEPTED);
+    CHECK(muzserlik_tree_step(tree, MUZSERLIK_SEND, 2, 0) == MUZSERLIK_ACCEPTED);
+    CHECK(muzserlik_tree_step(tree, MUZSERLIK_TAKE, 0, 2) == MUZSERLIK_ACCEPTED);
+    struct muzserlik_tree now = {.n = 3, .root = 1, .active = {1, 1, 1}, .unacked = {0, 3, 1}, .acks = {0, 1, 0}, .sends = 4};
+    memset(now.engager, MUZSERLIK_TREE_NONE, sizeof now.engager);
+    now.engager[0] = 2;
+    now.engager[1] = 1;
+    now.engager[2] = 1;
+    now.transit[16 * 1 + 0] = 1;
+    CHECK(same_trees(tree, &now));
+    CHECK(muzserlik_tree_is_sound(tree) == 1);
+    const size_t unknown[] = {0, 7, 256, 257, ((size_t)1 << 32) + 1, (size_t)-1};
+    for (size_t k = 0; k < sizeof unknown / sizeof unknown[0]; k++)
+        CHECK(tree_refusal(tree, unknown[k], 1, 0) == MUZSERLIK_REFUSED_UNKNOWN_KIND);
+    CHECK(tree_refusal(tree, MUZSERLIK_TAKE, 0, 3) == MUZSERLIK_REFUSED_UNKNOWN_NODE);
+    CHECK(tree_refusal(tree, MUZSERLIK_SEND, 1, 1) == MUZSERLIK_REFUSED_SELF_MESSAGE);
+    CHECK(tree_refusal(tree, MUZSERLIK_ACK, 2, 0) == MUZSERLIK_REFUSED_RULE_FAILS);
+    tree->sends = MUZSERLIK_SEND_LIMIT;
+    CHECK(tree_refusal(tree, MUZSERLIK_SEND, 1, 0) == MUZSERLIK_REFUSED_SEND_LIMIT);
+    tree->sends = 4;
+}
+
+static void tree_texts(struct muzserlik_tree *tree)
+{
+    uint8_t buffer[16], noise[16], engager[MUZSERLIK_TREE_NODES], before[MUZSERLIK_TREE_NODES];
+    size_t length = 77, root = 77;
+    memset(buffer, 0xa5, sizeof buffer);
+    memset(noise, 0xa5, sizeof noise);
+    memset(engager, 0xa5, sizeof engager);
+    memset(before, 0xa5, sizeof before);
+    CHECK(muzserlik_tree_write(tree, NULL, 0, &length) == MUZSERLIK_REFUSED_SHORT_BUFFER);
+    CHECK(muzserlik_tree_write(tree, buffer, 10, &length) == MUZSERLIK_REFUSED_SHORT_BUFFER);
+    CHECK(length == 77 && memcmp(buffer, noise, sizeof buffer) == 0);
+    CHECK(muzserlik_tree_write(tree, buffer, sizeof buffer, &length) == MUZSERLIK_ACCEPTED);
+    CHECK(length == 11 && memcmp(buffer, "(1 (2 (0)))", 11) == 0 && memcmp(buffer + 11, noise, 5) == 0);
+    CHECK(muzserlik_tree_read(17, buffer, length, engager, &root) == MUZSERLIK_REFUSED_NODE_COUNT);
+    CHECK(muzserlik_tree_read(2, buffer, length, engager, &root) == MUZSERLIK_REFUSED_UNKNOWN_NODE);
+    CHECK(muzserlik_tree_read(3, buffer, length + 1, engager, &root) == MUZSERLIK_REFUSED_NOT_A_FORM);
+    CHECK(muzserlik_tree_read(3, NULL, 0, engager, &root) == MUZSERLIK_REFUSED_NOT_A_FORM);
+    CHECK(root == 77 && memcmp(engager, before, sizeof engager) == 0);
+    CHECK(muzserlik_tree_read(3, buffer, length, engager, &root) == MUZSERLIK_ACCEPTED);
+    CHECK(root == 1 && memcmp(engager, tree->engager, sizeof engager) == 0);
+    tree->closed = 2;
+    CHECK(muzserlik_tree_is_sound(tree) == 0);
+    CHECK(tree_refusal(tree, MUZSERLIK_IDLE, 0, 0) == MUZSERLIK_REFUSED_UNSOUND);
+    CHECK(muzserlik_tree_write(tree, buffer, sizeof buffer, &length) == MUZSERLIK_REFUSED_UNSOUND);
+    tree->closed = 0;
+}
+
+/* 0 and 2 leave, the root has its acknowledgements, and announces. */
+static void tree_ends(struct muzserlik_tree *tree)
+{
+    const struct {
+        size_t kind, i, j;
+    } steps[] = {{MUZSERLIK_ACK, 1, 0},   {MUZSERLIK_IDLE, 0, 0}, {MUZSERLIK_LEAVE, 0, 0}, {MUZSERLIK_TAKE, 0, 1}, {MUZSERLIK_IDLE, 0, 0},
+                 {MUZSERLIK_LEAVE, 0, 0}, {MUZSERLIK_ACK, 2, 0},  {MUZSERLIK_IDLE, 2, 0},  {MUZSERLIK_IDLE, 1, 0}, {MUZSERLIK_LEAVE, 2, 0},
+                 {MUZSERLIK_ACK, 1, 0}};
+    for (size_t k = 0; k < sizeof steps / sizeof steps[0]; k++)
+        CHECK(muzserlik_tree_step(tree, steps[k].kind, steps[k].i, steps[k].j) == MUZSERLIK_ACCEPTED);
+    CHECK(tree_refusal(tree, MUZSERLIK_ANNOUNCE, 0, 0) == MUZSERLIK_REFUSED_RULE_FAILS);
+    CHECK(muzserlik_tree_step(tree, MUZSERLIK_ACK, 1, 0) == MUZSERLIK_ACCEPTED);
+    CHECK(muzserlik_tree_step(tree, MUZSERLIK_ANNOUNCE, 0, 0) == MUZSERLIK_ACCEPTED);
+    CHECK(tree->closed == 1 && tree_refusal(tree, MUZSERLIK_ACK, 1, 0) == MUZSERLIK_REFUSED_CLOSED);
+}
+
+int main(void)
+{
+    struct muzserlik_ring ring;
+    ring_starts(&ring);
+    ring_steps(&ring);
+    ring_unsound(&ring);
+    ring_drives(&ring);
+    ring_limit(&ring);
+    struct muzserlik_tree tree;
+    tree_starts(&tree);
+    tree_steps(&tree);
+    tree_texts(&tree);
+    tree_ends(&tree);
+    printf("calls from C: %d checks\n", checks);
+    return EXIT_SUCCESS;
+}

@@ -1,0 +1,234 @@
+/*
+ * Muzserlik: a proved termination detector. A ring of up to 96 nodes by Safra's rules (EWD998), a tree of up to 16 nodes by those of
+ * Dijkstra and Scholten.
+ *
+ * Link with libmuzserlik.a, which c/archive makes, on x86-64 Linux. Every function is proved to meet its contract; the contracts are in
+ * crates/ring_exports/src and crates/tree_exports/src. The inline functions of this header only hand the fields of a struct on, one by one.
+ *
+ * A call
+ *   - is answered with a number: 0 if it is accepted, else the number of the first check that it fails (enum muzserlik_answer). The driver
+ *     answers with 100, 101 or 102, or with a refusal. Soundness is answered with 1 or 0;
+ *   - that is refused leaves every byte that it was lent as it was. What it was lent to be written to is written only if it is accepted;
+ *   - judges whatever a struct holds: one that no start and no accepted step made is told from a sound one, and refused with 3;
+ *   - keeps nothing: what it is lent, it is lent until it returns. There is no state but the structs, so calls on different structs may run
+ *     at the same time in different threads, calls on the same struct may not.
+ *
+ * The caller sees to it that
+ *   - a pointer points to as much memory as its type or the length beside it says, aligned as its type asks (a struct that is declared as one
+ *     is), and is not null; with a length of 0 any pointer will do, also a null one;
+ *   - what is written to overlaps nothing else of the same call: `moves`, `length`, `buffer`, `engager` and `root` lie outside the struct, and
+ *     apart from each other and from the text. The fields of a struct do not overlap;
+ *   - nobody else writes to what is lent before the call returns.
+ * Where this is not so no call can tell, and nothing is promised.
+ *
+ * Numbers are size_t, so that no number is cut down on its way in: a kind of 257 is an unknown kind, and -1 is no node.
+ */
+#ifndef MUZSERLIK_H
+#define MUZSERLIK_H
+
+#include <stddef.h>
+#include <stdint.h>
+
+#ifdef __cplusplus
+static_assert(sizeof(size_t) == 8, "libmuzserlik.a is for x86-64");
+extern "C" {
+#else
+_Static_assert(sizeof(size_t) == 8, "libmuzserlik.a is for x86-64");
+#endif
+
+enum {
+    MUZSERLIK_RING_NODES = 96,
+    MUZSERLIK_RING_COLOR_BYTES = 12,
+    MUZSERLIK_TREE_NODES = 16,
+    /* no engager */
+    MUZSERLIK_TREE_NONE = 16,
+    /* a tree's text is never longer */
+    MUZSERLIK_TREE_TEXT_BYTES = 69,
+    /* accepted sends of one run, at most */
+    MUZSERLIK_SEND_LIMIT = 1000000,
+    /* moves of one drive, at most */
+    MUZSERLIK_MOVE_LIMIT = 1000
+};
+
+enum muzserlik_answer {
+    MUZSERLIK_ACCEPTED = 0,
+    /* start, reading: the number of nodes is outside 1 to 96, or 1 to 16 for a tree */
+    MUZSERLIK_REFUSED_NODE_COUNT = 1,
+    /* start of a ring: not one flag for each node, or one above 3 */
+    MUZSERLIK_REFUSED_START_FLAGS = 2,
+    /* the struct handed in is not sound */
+    MUZSERLIK_REFUSED_UNSOUND = 3,
+    /* the run is closed by an announcement */
+    MUZSERLIK_REFUSED_CLOSED = 4,
+    /* a step's kind is outside 1 to 6 */
+    MUZSERLIK_REFUSED_UNKNOWN_KIND = 5,
+    /* a node number that is used is n or more */
+    MUZSERLIK_REFUSED_UNKNOWN_NODE = 6,
+    /* a send from a node to itself */
+    MUZSERLIK_REFUSED_SELF_MESSAGE = 7,
+    /* the step's rule does not hold: the step is not possible now */
+    MUZSERLIK_REFUSED_RULE_FAILS = 8,
+    /* a send after 1,000,000 accepted ones */
+    MUZSERLIK_REFUSED_SEND_LIMIT = 9,
+    /* reading: the text is not a tree's */
+    MUZSERLIK_REFUSED_NOT_A_FORM = 10,
+    /* the driver's limit is above 1,000 */
+    MUZSERLIK_REFUSED_MOVE_LIMIT = 11,
+    /* writing: the buffer is shorter than the text */
+    MUZSERLIK_REFUSED_SHORT_BUFFER = 12,
+    /* the driver stopped: the announce test holds; no token move is allowed; it made as many moves as it was allowed */
+    MUZSERLIK_CONCLUSIVE = 100,
+    MUZSERLIK_WAITING = 101,
+    MUZSERLIK_SPENT = 102
+};
+
+/* The kinds of a step. Which numbers it uses: of the ring in the comment's first form, of the tree in the second. */
+enum muzserlik_kind {
+    MUZSERLIK_SEND = 1,     /* send i j: i sends j a message                 | the same */
+    MUZSERLIK_TAKE = 2,     /* take i: i receives a message                  | take i j: i receives a message from j */
+    MUZSERLIK_IDLE = 3,     /* idle i: i becomes passive                     | the same */
+    MUZSERLIK_PROBE = 4,    /* probe: node 0 sends the token round           | ack i: i receives an acknowledgement */
+    MUZSERLIK_PASS = 5,     /* pass i: i passes the token on                 | leave i: i is no longer engaged */
+    MUZSERLIK_ANNOUNCE = 6, /* announce: every node is passive and no message is in transit, and the run is closed | the same */
+    MUZSERLIK_ACK = 4,
+    MUZSERLIK_LEAVE = 5
+};
+
+/* A ring. Places from n on are zero. A start fills it; steps and the driver change it; anyone may read it. */
+struct muzserlik_ring {
+    size_t n;                                   /* nodes */
+    uint8_t active[MUZSERLIK_RING_NODES];       /* 1 where the node is active, else 0 */
+    uint8_t color[MUZSERLIK_RING_COLOR_BYTES];  /* node i is bit i % 8 (bit 0 lowest) of byte i / 8; 1 is black */
+    uint32_t sent[MUZSERLIK_RING_NODES];        /* messages that the node sent */
+    uint32_t received[MUZSERLIK_RING_NODES];    /* messages that it received */
+    uint32_t pending[MUZSERLIK_RING_NODES];     /* messages on their way to it */
+    size_t pos;                                 /* the token: the node that holds it, */
+    int64_t q;                                  /* its sum, */
+    uint8_t black;                              /* 1 where it is black, else 0 */
+    uint8_t closed;                             /* 1 once an announcement is accepted, else 0 */
+};
+
+/* A tree. Places from n on are zero, their engagers 16. */
+struct muzserlik_tree {
+    size_t n;                                /* nodes */
+    size_t root;
+    uint8_t active[MUZSERLIK_TREE_NODES];    /* 1 where the node is active, else 0 */
+    uint8_t engager[MUZSERLIK_TREE_NODES];   /* the root's is itself; 16: not engaged */
+    uint32_t unacked[MUZSERLIK_TREE_NODES];  /* messages that the node sent and that are not acknowledged to it yet */
+    uint32_t transit[MUZSERLIK_TREE_NODES * MUZSERLIK_TREE_NODES]; /* messages in transit from i to j: place 16 * i + j */
+    uint32_t acks[MUZSERLIK_TREE_NODES];     /* acknowledgements on their way to the node */
+    uint32_t sends;                          /* accepted sends of this run */
+    uint8_t closed;                          /* 1 once an announcement is accepted, else 0 */
+};
+
+/* ---- What the archive has. Call the inline functions below instead. */
+
+uint8_t muzserlik_ring_start_fields(size_t nodes, const uint8_t *flags, size_t count, size_t *n, uint8_t *active, uint8_t *color,
+                                    uint32_t *sent, uint32_t *received, uint32_t *pending, size_t *pos, int64_t *q, uint8_t *black,
+                                    uint8_t *closed);
+uint8_t muzserlik_ring_step_fields(size_t n, uint8_t *active, uint8_t *color, uint32_t *sent, uint32_t *received, uint32_t *pending,
+                                   size_t *pos, int64_t *q, uint8_t *black, uint8_t *closed, size_t kind, size_t i, size_t j);
+uint8_t muzserlik_ring_is_sound_fields(size_t n, const uint8_t *active, const uint8_t *color, const uint32_t *sent,
+                                       const uint32_t *received, const uint32_t *pending, size_t pos, int64_t q, uint8_t black,
+                                       uint8_t closed);
+uint8_t muzserlik_ring_drive_fields(size_t n, const uint8_t *active, uint8_t *color, const uint32_t *sent, const uint32_t *received,
+                                    const uint32_t *pending, size_t *pos, int64_t *q, uint8_t *black, uint8_t closed, size_t limit,
+                                    uint32_t *moves);
+uint8_t muzserlik_tree_start_fields(size_t nodes, size_t at, size_t *n, size_t *root, uint8_t *active, uint8_t *engager,
+                                    uint32_t *unacked, uint32_t *transit, uint32_t *acks, uint32_t *sends, uint8_t *closed);
+uint8_t muzserlik_tree_step_fields(size_t n, size_t root, uint8_t *active, uint8_t *engager, uint32_t *unacked, uint32_t *transit,
+                                   uint32_t *acks, uint32_t *sends, uint8_t *closed, size_t kind, size_t i, size_t j);
+uint8_t muzserlik_tree_is_sound_fields(size_t n, size_t root, const uint8_t *active, const uint8_t *engager, const uint32_t *unacked,
+                                       const uint32_t *transit, const uint32_t *acks, uint32_t sends, uint8_t closed);
+uint8_t muzserlik_tree_write_fields(size_t n, size_t root, const uint8_t *active, const uint8_t *engager, const uint32_t *unacked,
+                                    const uint32_t *transit, const uint32_t *acks, uint32_t sends, uint8_t closed, uint8_t *buffer,
+                                    size_t room, size_t *length);
+uint8_t muzserlik_tree_read_fields(size_t nodes, const uint8_t *text, size_t length, uint8_t *engager, size_t *root);
+
+/* ---- The ring */
+
+/*
+ * Starts a run of n nodes: `flags` has `count` bytes, which have to be n, one for each node: 1 for active, plus 2 for black.
+ * 0, 1 or 2. The struct may hold anything before; it is filled where the start is accepted, and else left as it was.
+ */
+static inline int muzserlik_ring_start(struct muzserlik_ring *ring, size_t n, const uint8_t *flags, size_t count)
+{
+    const uint8_t none = 0;
+    return muzserlik_ring_start_fields(n, count == 0 ? &none : flags, count, &ring->n, ring->active, ring->color, ring->sent,
+                                       ring->received, ring->pending, &ring->pos, &ring->q, &ring->black, &ring->closed);
+}
+
+/* One step (enum muzserlik_kind); a number that its kind does not use is not read. 0, or 3 to 9 with the ring as it was. */
+static inline int muzserlik_ring_step(struct muzserlik_ring *ring, size_t kind, size_t i, size_t j)
+{
+    return muzserlik_ring_step_fields(ring->n, ring->active, ring->color, ring->sent, ring->received, ring->pending, &ring->pos, &ring->q,
+                                      &ring->black, &ring->closed, kind, i, j);
+}
+
+/* 1 where the ring is sound, else 0. */
+static inline int muzserlik_ring_is_sound(const struct muzserlik_ring *ring)
+{
+    return muzserlik_ring_is_sound_fields(ring->n, ring->active, ring->color, ring->sent, ring->received, ring->pending, ring->pos,
+                                          ring->q, ring->black, ring->closed);
+}
+
+/*
+ * Moves the token until the announce test holds (100), no move is allowed (101) or `limit` moves are made (102); `moves` is then how many it
+ * made. 3, 4 or 11: refused, ring and `moves` as they were. It never announces: that is a step. A ring with every node passive and no message
+ * in transit needs at most 3n - 2 moves.
+ */
+static inline int muzserlik_ring_drive(struct muzserlik_ring *ring, size_t limit, uint32_t *moves)
+{
+    return muzserlik_ring_drive_fields(ring->n, ring->active, ring->color, ring->sent, ring->received, ring->pending, &ring->pos, &ring->q,
+                                       &ring->black, ring->closed, limit, moves);
+}
+
+/* ---- The tree */
+
+/* Starts a run of n nodes with the given root, which alone is active and engaged. 0, 1 or 6; the struct as for a ring's start. */
+static inline int muzserlik_tree_start(struct muzserlik_tree *tree, size_t n, size_t root)
+{
+    return muzserlik_tree_start_fields(n, root, &tree->n, &tree->root, tree->active, tree->engager, tree->unacked, tree->transit, tree->acks,
+                                       &tree->sends, &tree->closed);
+}
+
+/* One step (enum muzserlik_kind); a number that its kind does not use is not read. 0, or 3 to 9 with the tree as it was. */
+static inline int muzserlik_tree_step(struct muzserlik_tree *tree, size_t kind, size_t i, size_t j)
+{
+    return muzserlik_tree_step_fields(tree->n, tree->root, tree->active, tree->engager, tree->unacked, tree->transit, tree->acks,
+                                      &tree->sends, &tree->closed, kind, i, j);
+}
+
+/* 1 where the tree is sound, else 0. */
+static inline int muzserlik_tree_is_sound(const struct muzserlik_tree *tree)
+{
+    return muzserlik_tree_is_sound_fields(tree->n, tree->root, tree->active, tree->engager, tree->unacked, tree->transit, tree->acks,
+                                          tree->sends, tree->closed);
+}
+
+/*
+ * The text of the engagement tree, as (0 (1) (2 (3))), into the `room` bytes at `buffer`, with no zero byte after it; `length` is then how
+ * long it is, and bytes past it keep their values. 0; 3 or 12 with buffer and `length` as they were.
+ */
+static inline int muzserlik_tree_write(const struct muzserlik_tree *tree, uint8_t *buffer, size_t room, size_t *length)
+{
+    uint8_t none = 0;
+    return muzserlik_tree_write_fields(tree->n, tree->root, tree->active, tree->engager, tree->unacked, tree->transit, tree->acks,
+                                       tree->sends, tree->closed, room == 0 ? &none : buffer, room, length);
+}
+
+/*
+ * Reads the text of a tree of n nodes, `length` bytes and no more: the engagers, 16 where a node is not engaged, and the root.
+ * 0; 1, 6 or 10 with `engager` and `root` as they were. A text says nothing of messages: it does not make a tree to go on with.
+ */
+static inline int muzserlik_tree_read(size_t n, const uint8_t *text, size_t length, uint8_t engager[MUZSERLIK_TREE_NODES], size_t *root)
+{
+    const uint8_t none = 0;
+    return muzserlik_tree_read_fields(n, length == 0 ? &none : text, length, engager, root);
+}
+
+#ifdef __cplusplus
+}
+#endif
+
+#endif
