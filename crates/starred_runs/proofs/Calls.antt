@@ -18,14 +18,18 @@ use Rattle.tree_text.specs.Read.{andThen, bodyOf, closed, entered, listOf, node
 use Rattle.tree_text.specs.Text.{childrenText, nodeText}
 use Rattle.tree_text.specs.Write.{writeVerdict}
 use Rattle.starred_runs.specs.Case.{allPass, passes}
-use Rattle.starred_runs.specs.TableLent.{drives, flags, soundness, steps, texts}
 use Rattle.starred_runs.specs.Table.{calls}
 use Rattle.ring_rules.specs.Answers as ring
 use Rattle.ring_rules.specs.Rules as ringRules
 use Rattle.ring_rules.specs.Soundness as ringSound
+use Rattle.ring_rules.specs.Start as ringStart
+use Rattle.tree_rules.specs.Answers as treeAnswers
 use Rattle.tree_rules.specs.Rules as treeRules
 use Rattle.tree_rules.specs.Soundness as treeSound
+use Rattle.tree_rules.specs.Start as treeStart
+use Rattle.starred_runs.specs.TableLent as lent
+use Rattle.starred_runs.specs.TableLentTrees as lentTree
 
 pub calls-pass : allPass calls ≡ true
-unfolding calls steps soundness drives flags texts passes allPass flagsTest treeFlagsTest areFlags bytesOf flagsOf put isBlack blackened whitened _⊖_ isPositive isZero isSame sumTo countTo ringRules.conclusive ringSound.shapeTest ringSound.rangeTest flowTest sumTest passiveAbove whiteTo gatheredTest safraTest unusedTest ringSound.closedTest ringSound.soundTest mayProbe mayPass ring.verdictOf ring.answerOf mayMove moveOf driveFrom driveOf messagesFrom children climb treeRules.conclusive treeSound.shapeTest treeSound.rangeTest engagerTest chainTest balanceTest restTest pairTest placeTest limitTest treeSound.closedTest treeSound.soundTest decimal digits childrenText nodeText writeVerdict scanOf checked numberOf andThen entered closed bodyOf nodeBy listOf nodeOf readOf
+unfolding calls lent.starts lent.steps lent.soundness lent.drives lent.flags lentTree.starts lentTree.steps lentTree.soundness lentTree.not-sound lentTree.texts passes allPass flagsTest treeFlagsTest areFlags bytesOf flagsOf put isBlack blackened whitened _⊖_ isPositive isZero isSame sumTo countTo ringRules.conclusive ringSound.shapeTest ringSound.rangeTest flowTest sumTest passiveAbove whiteTo gatheredTest safraTest unusedTest ringSound.closedTest ringSound.soundTest mayProbe mayPass ring.verdictOf ring.answerOf mayMove moveOf driveFrom driveOf ringStart.activeFrom ringStart.colorFrom ringStart.flagsTest ringStart.firstState ringStart.blank ringStart.startVerdict ringStart.startOf messagesFrom children climb treeRules.conclusive treeSound.shapeTest treeSound.rangeTest engagerTest chainTest balanceTest restTest pairTest placeTest limitTest treeSound.closedTest treeSound.soundTest treeRules.mayLeave treeAnswers.verdictOf treeAnswers.answerOf treeStart.firstState treeStart.blank treeStart.startVerdict treeStart.startOf decimal digits childrenText nodeText writeVerdict scanOf checked numberOf andThen entered closed bodyOf nodeBy listOf nodeOf readOf
 calls-pass = refl

@@ -9,9 +9,9 @@ use mathlib.Core.Bool.{Bool, _&&_, _||_, cond, false, not, true}
 use mathlib.Core.List.{List, [], _++_, _∷_}
 use Rattle.color.specs.Colors.{blackened, isBlack, whitened}
 use Rattle.decimal.specs.Bytes.{bytes}
-use Rattle.lent.specs.Ring.{Lent, driveFields, driveMoves, driveNumber, soundNumber, stepFields, stepNumber}
-use Rattle.lent.specs.Tree.{LentTree, readEngagers, readNumber, readRoot, writeBuffer, writeLength, writeNumber}
 use Rattle.laws.specs.Places.{allTo}
+use Rattle.lent.specs.Ring.{Lent, driveFields, driveMoves, driveNumber, soundNumber, startFields, startNumber, stepFields, stepNumber}
+use Rattle.lent.specs.Tree.{LentTree, readEngagers, readNumber, readRoot, treeSoundNumber, treeStartFields, treeStartNumber, treeStepFields, treeStepNumber, writeBuffer, writeLength, writeNumber}
 use Rattle.log_rules.specs.Output.{outputOf}
 use Rattle.refusal.specs.Table.{codeOf, numberOf}
 use Rattle.refusal.specs.declared.Refusal.{Refusal}
@@ -98,11 +98,17 @@ pub data Case : Type 0 where
   black-by : ℕ → ℕ → ℕ → Case
   -- the ring's color bytes
   colors : ring.State → List ℕ → Case
-  -- from other languages: of a lent ring, the number that a step of this kind and these nodes is answered with, and the fields after it;
-  -- the number of its soundness; of a driver with this limit, the count of moves before it, its number, and the count and the fields after it
+  -- from other languages: of n nodes and these flags, the fields before, the number of the answer, and the fields after; of a lent ring,
+  -- the number that a step of this kind and these nodes is answered with, and the fields after it; the number of its soundness; of a driver
+  -- with this limit, the count of moves before it, its number, and the count and the fields after it
+  lent-start : ℕ → List ℕ → Lent → ℕ → Lent → Case
   lent-step : Lent → ℕ → ℕ → ℕ → ℕ → Lent → Case
   lent-sound : Lent → ℕ → Case
   lent-drive : Lent → ℕ → ℕ → ℕ → ℕ → Lent → Case
+  -- the same of n nodes and a root; of a lent tree
+  lent-tree-start : ℕ → ℕ → LentTree → ℕ → LentTree → Case
+  lent-tree-step : LentTree → ℕ → ℕ → ℕ → ℕ → LentTree → Case
+  lent-tree-sound : LentTree → ℕ → Case
   -- of a lent tree, the buffer and the length before, the number of the answer, and the length and the buffer after; of n nodes and a text,
   -- the engagers and the root before, the number of the answer, and the engagers and the root after
   lent-write : LentTree → List ℕ → ℕ → ℕ → ℕ → List ℕ → Case
@@ -271,6 +277,17 @@ sameLent a b =
     && (sameList (a .pending) (b .pending)
     && (eqb (a .pos) (b .pos) && (isSame (a .q) (b .q) && (eqb (a .black) (b .black) && eqb (a .closed) (b .closed)))))))))
 
+-- all nine fields
+abbrev pub sameLentTree : LentTree → LentTree → Bool
+sameLentTree a b =
+    eqb (a .n) (b .n)
+    && (eqb (a .root) (b .root)
+    && (sameList (a .active) (b .active)
+    && (sameList (a .engager) (b .engager)
+    && (sameList (a .unacked) (b .unacked)
+    && (sameList (a .transit) (b .transit)
+    && (sameList (a .acks) (b .acks) && (eqb (a .sends) (b .sends) && eqb (a .closed) (b .closed))))))))
+
 -- ---- the answer
 
 unfoldable pub passes : Case → Bool
@@ -303,10 +320,14 @@ passes (refusal e k) = eqb (numberOf e) k
 passes (reason e k) = eqb (reasonNumber e) k
 passes (black-by i k v) = blackBy i k v
 passes (colors r l) = sameList (r .color) l
+passes (lent-start n flags before k after) = eqb (startNumber n flags) k && sameLent (startFields n flags before) after
 passes (lent-step l kind i j k after) = eqb (stepNumber l kind i j) k && sameLent (stepFields l kind i j) after
 passes (lent-sound l k) = eqb (soundNumber l) k
 passes (lent-drive l limit moves k made after) =
     eqb (driveNumber l limit) k && (eqb (driveMoves l limit moves) made && sameLent (driveFields l limit) after)
+passes (lent-tree-start n root before k after) = eqb (treeStartNumber n root) k && sameLentTree (treeStartFields n root before) after
+passes (lent-tree-step l kind i j k after) = eqb (treeStepNumber l kind i j) k && sameLentTree (treeStepFields l kind i j) after
+passes (lent-tree-sound l k) = eqb (treeSoundNumber l) k
 passes (lent-write l buf size k long after) =
     eqb (writeNumber l buf) k && (eqb (writeLength l buf size) long && sameList (writeBuffer l buf) after)
 passes (lent-read n s engager root k engager′ root′) =

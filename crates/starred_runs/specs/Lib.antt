@@ -9,4 +9,5 @@ pub mod TableLimits
 pub mod TableNumbers
 pub mod TableTexts
 pub mod TableLent
+pub mod TableLentTrees
 pub mod Table

@@ -9,6 +9,7 @@ use Rattle.starred_runs.specs.TableRefusals.{order, outside}
 use Rattle.starred_runs.specs.TableRuns.{runs}
 use Rattle.starred_runs.specs.TableTexts.{texts}
 use Rattle.starred_runs.specs.TableLent as lent
+use Rattle.starred_runs.specs.TableLentTrees as lentTree
 use Rattle.starred_runs.specs.TableRings as ring
 use Rattle.starred_runs.specs.TableTrees as tree
 
@@ -30,7 +31,12 @@ written = numbers ++ texts
 
 -- what other languages are told
 unfoldable pub calls : List Case
-calls = lent.steps ++ (lent.soundness ++ (lent.drives ++ (lent.flags ++ lent.texts)))
+calls =
+    lent.steps
+    ++ (lent.soundness
+    ++ (lent.drives
+    ++ (lent.flags
+    ++ (lent.starts ++ (lentTree.steps ++ (lentTree.soundness ++ (lentTree.not-sound ++ (lentTree.starts ++ lentTree.texts))))))))
 
 unfoldable pub table : List Case
 table = runs ++ (rings ++ (trees ++ (refusals ++ (written ++ calls))))

@@ -1,14 +1,12 @@
--- What other languages are told: rings and trees lent field by field, in the order of the functions' arguments, no two fields alike, so that
--- no field stands in another's place. "A refusal gives its number and the state handed in; no byte of a lent buffer differs."
+-- What other languages are told of rings, lent field by field in the order of the functions' arguments, no two fields alike, so that no field
+-- stands in another's place. "A refusal gives its number and the state handed in; no byte of a lent buffer differs."
 use Prim.Native.Nat.{ℕ}
 use lib.IntN.{ℤ}
 use lib.ListN.{replicate, set}
 use mathlib.Core.List.{List, [], _++_, _∷_}
-use Rattle.decimal.specs.Bytes.{bytes}
 use Rattle.lent.specs.Ring.{Lent, lent}
-use Rattle.lent.specs.Tree.{LentTree, lentTree}
 use Rattle.signed.specs.Integers.{_⊖_}
-use Rattle.starred_runs.specs.Case.{Case, conclusive, lent-drive, lent-read, lent-sound, lent-step, lent-write, spent, waiting}
+use Rattle.starred_runs.specs.Case.{Case, conclusive, lent-drive, lent-sound, lent-start, lent-step, spent, waiting}
 
 -- ---- rings of three nodes
 
@@ -30,6 +28,25 @@ quiet color at q black closed =
 abbrev pub handed : Lent
 handed = busy (three 1 0 0) 3 1 (0 ⊖ 4) 1 0
 
+-- what lies in the fields before a start
+abbrev pub unread : Lent
+unread =
+    lent 77 (replicate 96 9) (replicate 12 8) (replicate 96 7) (replicate 96 6) (replicate 96 5) 4 (0 ⊖ 3) 2 99
+
+-- a start that is refused with this number: every field as it was
+abbrev pub starts-not : ℕ → List ℕ → ℕ → Case
+starts-not n flags k = lent-start n flags unread k unread
+
+unfoldable pub starts : List Case
+starts =
+    -- 0 and 2 active, 0 and 1 black; every count 0, a black token at node 0
+    lent-start 3 (3 ∷ 2 ∷ 1 ∷ []) unread 0 (lent 3 (three 1 0 1) (3 ∷ replicate 11 0) (three 0 0 0) (three 0 0 0) (three 0 0 0) 0 (0 ⊖ 0) 1 0)
+    ∷ starts-not 0 [] 1
+    ∷ starts-not 97 (replicate 97 0) 1
+    ∷ starts-not 3 (3 ∷ 2 ∷ []) 2
+    ∷ starts-not 3 (3 ∷ 2 ∷ 4 ∷ []) 2
+    ∷ []
+
 -- a step that is refused with this number: every field as it was
 abbrev pub keeps : Lent → ℕ → ℕ → ℕ → ℕ → Case
 keeps l kind i j k = lent-step l kind i j k l
@@ -39,6 +56,8 @@ unfoldable pub steps : List Case
 steps =
     -- sent of 0 and pending of 2 rise
     lent-step handed 1 0 2 0 (lent 3 (three 1 0 0) (3 ∷ replicate 11 0) (three 6 6 7) (three 3 4 2) (three 2 1 7) 1 (0 ⊖ 4) 1 0)
+    -- 257 is 1 in its lowest byte
+    ∷ keeps handed 257 0 2 5
     -- pending of 2 falls, received rises, 2 becomes active and black
     ∷ lent-step handed 2 2 9 0 (lent 3 (three 1 0 1) (7 ∷ replicate 11 0) (three 5 6 7) (three 3 4 3) (three 2 1 5) 1 (0 ⊖ 4) 1 0)
     ∷ lent-step handed 3 0 9 0 (busy (three 0 0 0) 3 1 (0 ⊖ 4) 1 0)
@@ -70,6 +89,7 @@ drives =
     ∷ lent-drive (quiet 2 1 (0 ⊖ 0) 0 0) 1 77 spent 1 (quiet 0 0 (3 ⊖ 0) 1 0)
     ∷ lent-drive (busy (three 0 1 0) 3 1 (0 ⊖ 4) 1 0) 5 77 waiting 0 (busy (three 0 1 0) 3 1 (0 ⊖ 4) 1 0)
     ∷ lent-drive (quiet 2 1 (0 ⊖ 0) 0 0) 1001 77 11 77 (quiet 2 1 (0 ⊖ 0) 0 0)
+    ∷ lent-drive (quiet 2 1 (0 ⊖ 0) 0 0) 4294967297 77 11 77 (quiet 2 1 (0 ⊖ 0) 0 0)
     ∷ lent-drive (quiet 0 0 (3 ⊖ 0) 0 1) 5 77 4 77 (quiet 0 0 (3 ⊖ 0) 0 1)
     ∷ []
 
@@ -83,37 +103,3 @@ flags =
     no-flag (busy (three 1 2 0) 3 1 (0 ⊖ 4) 1 0)
     ++ (no-flag (busy (set (three 1 0 0) 95 2) 3 1 (0 ⊖ 4) 1 0)
     ++ (no-flag (busy (three 1 0 0) 3 1 (0 ⊖ 4) 2 0) ++ no-flag (busy (three 1 0 0) 3 1 (0 ⊖ 4) 1 2)))
-
--- ---- a tree of four nodes, root 1, which engages 0, which engages 2
-
--- a column of which the first three places are in use, the others holding `rest`
-abbrev pub first : ℕ → ℕ → ℕ → ℕ → List ℕ
-first rest a b c = a ∷ b ∷ c ∷ replicate 13 rest
-
--- two messages in transit from 1 to 3, one from 2 to 0; 20 accepted sends
-abbrev pub grown : List ℕ → ℕ → LentTree
-grown active closed =
-    lentTree 4 1 active (first 16 1 1 0) (first 0 4 3 2) (set (set (replicate 256 0) 19 2) 32 1) (first 0 3 0 1) 20 closed
-
--- the buffer lent
-abbrev pub room : List ℕ
-room = replicate 11 7 ++ (90 ∷ 91 ∷ 92 ∷ [])
-
--- the length lent is 77, the engagers are 9 and the root 99; a refusal leaves them
-unfoldable pub texts : List Case
-texts =
-    lent-write (grown (first 0 1 0 1) 0) room 77 0 11 (bytes "(1 (0 (2)))" ++ (90 ∷ 91 ∷ 92 ∷ []))
-    ∷ lent-write (grown (first 0 1 0 1) 0) (replicate 11 7) 77 0 11 (bytes "(1 (0 (2)))")
-    ∷ lent-write (grown (first 0 1 0 1) 0) (replicate 10 7) 77 12 77 (replicate 10 7)
-    -- node 3, which has no engager, active; closed where announce's test fails
-    ∷ lent-write (grown (set (first 0 1 0 1) 3 1) 0) room 77 3 77 room
-    ∷ lent-write (grown (first 0 1 0 1) 1) room 77 3 77 room
-    -- a byte that is no truth
-    ∷ lent-write (grown (first 0 1 0 2) 0) room 77 3 77 room
-    ∷ lent-write (grown (set (first 0 1 0 1) 15 2) 0) room 77 3 77 room
-    ∷ lent-write (grown (first 0 1 0 1) 2) room 77 3 77 room
-    ∷ lent-read 4 "(1 (0 (2)))" (replicate 16 9) 99 0 (first 16 1 1 0) 1
-    ∷ lent-read 17 "(1 (0 (2)))" (replicate 16 9) 99 1 (replicate 16 9) 99
-    ∷ lent-read 2 "(1 (0 (2)))" (replicate 16 9) 99 6 (replicate 16 9) 99
-    ∷ lent-read 4 "(1 (0 (2))" (replicate 16 9) 99 10 (replicate 16 9) 99
-    ∷ []
