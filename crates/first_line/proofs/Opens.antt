@@ -16,7 +16,7 @@ use Rattle.decimal.specs.Word.{starts}
 use Rattle.decimal.specs.Number.{digitB}
 use Rattle.decimal.proofs.Cases.{advance}
 use Rattle.decimal.proofs.Words.{word-sound, word-back, word-in}
-use Rattle.forms.specs.Form.{spacedNumbers, formText, Small, Ascending, SmallForm, Says, line, SaysAt}
+use Rattle.forms.specs.Form.{spacedNumbers, formText, Small, Ascending, SmallForm, Says, line, SaysAt, lineBytes}
 use Rattle.forms.specs.Read.{spacedOf, Read, read, other}
 use Rattle.forms.proofs.Arguments.{spaced-sound, spaced-found, place}
 use Rattle.forms.proofs.Lines.{form-line, form-some, line-rest}
@@ -205,13 +205,13 @@ module _ (s : List ℕ) (at : ℕ) where
       r .1 ∙ ap (read f) (start-end f (r .0) (r .1))
 
   -- 3. exact both ways
-  fitted-by : (g : Start) (d : ℕ) (t : Bool) → ltb (at + 700) d ≡ t → (f : Start) (e : ℕ) → cond t other (read g d) ≡ read f e
-      → (read g d ≡ read f e) × (e ≤ at + 700)
+  fitted-by : (g : Start) (d : ℕ) (t : Bool) → ltb (at + lineBytes) d ≡ t → (f : Start) (e : ℕ) → cond t other (read g d) ≡ read f e
+      → (read g d ≡ read f e) × (e ≤ at + lineBytes)
   fitted-by g d true q f e h = absurd (let z : _≡_ {A = ℕ} 0 1 = cc in let y : ⊥ = omega arith in y)
-  fitted-by g d false q f e h = (h, let x : d ≡ e = cc in omega (arith, ltb-false (at + 700) d q))
+  fitted-by g d false q f e h = (h, let x : d ≡ e = cc in omega (arith, ltb-false (at + lineBytes) d q))
 
-  fitted-sound : (r : Read Start) (f : Start) (e : ℕ) → fitted at r ≡ read f e → (r ≡ read f e) × (e ≤ at + 700)
-  fitted-sound (read g d) f e h = fitted-by g d (ltb (at + 700) d) refl f e h
+  fitted-sound : (r : Read Start) (f : Start) (e : ℕ) → fitted at r ≡ read f e → (r ≡ read f e) × (e ≤ at + lineBytes)
+  fitted-sound (read g d) f e h = fitted-by g d (ltb (at + lineBytes) d) refl f e h
   fitted-sound other f e h = absurd (let z : _≡_ {A = ℕ} 0 1 = cc in let y : ⊥ = omega arith in y)
 
   first-sound : (f : Start) (e : ℕ) → firstAt s at ≡ read f e → SaysAt s at (startForm f) e
@@ -220,7 +220,7 @@ module _ (s : List ℕ) (at : ℕ) where
       let q = fitted-sound (startAt s at) f e h in
       let r : Sound (read f e) = subst Sound (q .0) start-sound in
       let ends = start-end f e (q .0) in
-      let few : length (formText (startForm f)) ≤ 700 = omega (arith, q .1) in
+      let few : length (formText (startForm f)) ≤ lineBytes = omega (arith, q .1) in
       ((ap line (r .0) ∙ form-line (startForm f) (drop e s), (r .2, few)), ends)
 
   first-whole : (f : Start) (e : ℕ) → SaysAt s at (startForm f) e → firstAt s at ≡ read f e
@@ -230,7 +230,7 @@ module _ (s : List ℕ) (at : ℕ) where
       let t : drop at s ≡ formText (startForm f) ++ drop n (drop at s) =
       line-rest (drop at s) ∙ ap (λ (l : List ℕ). l ++ drop n (drop at s)) is in
       let r : startAt s at ≡ read f e = start-found f (drop n (drop at s)) small t ∙ ap (read f) (sym ends) in
-      rw (r, le-ltb (at + 700) e (omega arith))
+      rw (r, le-ltb (at + lineBytes) e (omega arith))
 
   pub first-exact : (f : Start) (e : ℕ) → (firstAt s at ≡ read f e) ↔ SaysAt s at (startForm f) e
   first-exact f e = (first-sound f e, first-whole f e)

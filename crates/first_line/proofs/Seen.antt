@@ -7,6 +7,7 @@ use lib.ListN.{drop}
 use borrow.Author.Tests.{lt-ltb, le-ltb}
 use Rattle.decimal.specs.Bytes.{bytes}
 use Rattle.decimal.specs.Word.{starts}
+use Rattle.forms.specs.Form.{lineBytes}
 use Rattle.forms.specs.Read.{Read, read, other}
 use Rattle.first_line.specs.declared.First.{First}
 use Rattle.first_line.specs.Start.{Start, bare, lists, tree, zeros, noFirst, flagAll, topOf, seen, seenOf}
@@ -35,19 +36,19 @@ end-of (bare n) e = refl
 end-of (lists n active black) e = refl
 end-of (tree n root) e = refl
 
-long-by : (at : ℕ) (r : Read Start) → at + 700 < seenOf r .end → noFirst ≡ seenOf (fitted at r)
+long-by : (at : ℕ) (r : Read Start) → at + lineBytes < seenOf r .end → noFirst ≡ seenOf (fitted at r)
 long-by at other h = refl
-long-by at (read f e) h = let k : at + 700 < e = subst (λ (x : ℕ). at + 700 < x) (end-of f e) h in rw (lt-ltb (at + 700) e k)
+long-by at (read f e) h = let k : at + lineBytes < e = subst (λ (x : ℕ). at + lineBytes < x) (end-of f e) h in rw (lt-ltb (at + lineBytes) e k)
 
-short-by : (at : ℕ) (r : Read Start) → seenOf r .end ≤ at + 700 → seenOf r ≡ seenOf (fitted at r)
+short-by : (at : ℕ) (r : Read Start) → seenOf r .end ≤ at + lineBytes → seenOf r ≡ seenOf (fitted at r)
 short-by at other h = refl
-short-by at (read f e) h = let k : e ≤ at + 700 = subst (λ (x : ℕ). x ≤ at + 700) (end-of f e) h in rw (le-ltb (at + 700) e k)
+short-by at (read f e) h = let k : e ≤ at + lineBytes = subst (λ (x : ℕ). x ≤ at + lineBytes) (end-of f e) h in rw (le-ltb (at + lineBytes) e k)
 
 module _ (s : List ℕ) (at : ℕ) {r : First} (is : r ≡ seenOf (startAt s at)) where
-  pub too-long : at + 700 < r .end → noFirst ≡ seenOf (firstAt s at)
+  pub too-long : at + lineBytes < r .end → noFirst ≡ seenOf (firstAt s at)
   unfolding firstAt
-  too-long h = long-by at (startAt s at) (subst (λ (x : First). at + 700 < x .end) is h)
+  too-long h = long-by at (startAt s at) (subst (λ (x : First). at + lineBytes < x .end) is h)
 
-  pub not-long : r .end ≤ at + 700 → r ≡ seenOf (firstAt s at)
+  pub not-long : r .end ≤ at + lineBytes → r ≡ seenOf (firstAt s at)
   unfolding firstAt
-  not-long h = is ∙ short-by at (startAt s at) (subst (λ (x : First). x .end ≤ at + 700) is h)
+  not-long h = is ∙ short-by at (startAt s at) (subst (λ (x : First). x .end ≤ at + lineBytes) is h)

@@ -8,6 +8,7 @@ use Rattle.decimal.specs.declared.Num.{Num}
 use Rattle.decimal.specs.declared.Num.the-variants.{Value, Wrong}
 use Rattle.decimal.specs.Bytes.{bytes}
 use Rattle.decimal.specs.Word.{starts}
+use Rattle.forms.specs.Form.{lineBytes}
 use Rattle.forms.specs.Read.{spacedOf, Read, read, other}
 use Rattle.first_line.specs.declared.First.{First}
 use Rattle.first_line.specs.declared.Marks.{Marks}
@@ -77,9 +78,9 @@ startAt s at =
     cond (starts (bytes "(ring") (drop at s)) (ringAfter s (spacedOf s (at + 5)))
     (cond (starts (bytes "(tree") (drop at s)) (treeAfter s (spacedOf s (at + 5))) other)
 
--- at most 700 bytes from index `at` on
+-- at most `lineBytes` from index `at` on
 abbrev pub fitted : ℕ → Read Start → Read Start
-fitted at (read f e) = cond (ltb (at + 700) e) other (read f e)
+fitted at (read f e) = cond (ltb (at + lineBytes) e) other (read f e)
 fitted at other = other
 
 -- the first line that the line of s at `at` says

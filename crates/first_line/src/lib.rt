@@ -1,6 +1,7 @@
 // The first line of a log: a ring with its start flags, or a tree with its root.
 use decimal::Num;
 use decimal::has;
+use forms::LINE_BYTES;
 use forms::spaced;
 ghost use mathlib.Core.Path.{_≡_};
 ghost use Prim.Native.Nat.{_+_, _≤_, _<_, max};
@@ -240,8 +241,8 @@ pub fn read_first(s: &[u8], at: usize) -> First
 {
     let f = start_at(s, at);
     let end = f.end;
-    if 700 < end {
-        if at < end - 700 {
+    if LINE_BYTES < end {
+        if at < end - LINE_BYTES {
             return no_first();
         }
         return f;

@@ -73,8 +73,11 @@ SmallForm (leave i) = Small i
 SmallForm announce = Unit {0}
 
 -- "at most 700 bytes with it" (byte 10)
+abbrev pub lineBytes : ℕ
+lineBytes = 700
+
 abbrev pub Valid : Form → Type 0
-Valid f = SmallForm f × (length (formText f) ≤ 700)
+Valid f = SmallForm f × (length (formText f) ≤ lineBytes)
 
 -- the line l says the form f
 abbrev pub Says : List ℕ → Form → Type 0

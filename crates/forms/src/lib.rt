@@ -8,6 +8,9 @@ ghost use Prim.Native.Nat.{_+_, _≤_, _<_};
 ghost use lib.ListN.{length};
 ghost use Rattle.forms.specs.Read.{one, two, spacedOf, closedOf, secondOf, argsOf};
 
+// The most bytes of a line, byte 10 with them: `lineBytes` of specs/Form.
+pub const LINE_BYTES: usize = 700;
+
 // A step of the ring.
 pub enum RingStep {
     Send(usize, usize),

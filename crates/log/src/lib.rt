@@ -5,6 +5,7 @@ use log_beginning::blank_tree;
 use log_lines::hold;
 use log_lines::line_end;
 use log_ring::ring_piece;
+use log_rules::LINE_LIMIT;
 use log_state::Fed;
 use log_state::Log;
 use log_state::answer_held;
@@ -18,7 +19,8 @@ ghost use Prim.Native.Nat.{_+_, _*_, _≤_};
 ghost use lib.ListN.{length, drop};
 ghost use Rattle.ring.specs.View as ringView;
 ghost use Rattle.tree.specs.View as treeView;
-ghost use Rattle.log_rules.specs.Answers.{fresh, onRing, onTree};
+ghost use Rattle.forms.specs.Form.{lineBytes};
+ghost use Rattle.log_rules.specs.Answers.{answerBytes, fresh, onRing, onTree};
 ghost use Rattle.log_rules.specs.Pieces.{NoMore, heldOf};
 ghost use Rattle.log_beginning.specs.Open.{SoundStage};
 ghost use Rattle.log_state.specs.Feed.{stageOf, Good, Room, HeldRest, FedFrom, Going};
@@ -41,10 +43,10 @@ pub fn start() -> Log
 
 // What is held of the line that the piece cuts.
 fn hold_rest(lines: u64, piece: &[u8], next: usize, line: &mut [u8]) -> usize
-    requires { ⌜ (next ≤ length (now piece)) × (length (now line) ≡ 700) × NoMore lines next (now piece) ⌝ }
+    requires { ⌜ (next ≤ length (now piece)) × (length (now line) ≡ lineBytes) × NoMore lines next (now piece) ⌝ }
     ensures { λ len. ⌜ HeldRest lines next (now (piece .entry)) len (now (line .exit)) ⌝ }
 {
-    if 1000000 <= lines {
+    if LINE_LIMIT <= lines {
         return 0;
     }
     hold(piece, next, piece.len(), line, 0)
@@ -125,10 +127,10 @@ fn go_on(log: Log, piece: &[u8], from: usize, line: &mut [u8], out: &mut [u8], a
 
 // A piece of the log: its whole lines are answered into `out`, and what it has of the next is held in `line`.
 pub fn feed(log: Log, piece: &[u8], line: &mut [u8], out: &mut [u8]) -> Fed
-    requires { ⌜ Good log (now line) × ((length (now piece) + 700) * 16 ≤ length (now out)) ⌝ }
+    requires { ⌜ Good log (now line) × ((length (now piece) + lineBytes) * answerBytes ≤ length (now out)) ⌝ }
     ensures { λ f. ⌜ FedFrom (stageOf log) (log .lines) (heldOf (now (line .entry)) (log .len)) (now (piece .entry)) f (now (line .exit)) 0 (now (out .entry)) (now (out .exit)) ⌝ }
 {
-    if 1000000 <= log.lines {
+    if LINE_LIMIT <= log.lines {
         return Fed { log, count: 0 };
     }
     let end = line_end(piece, 0);

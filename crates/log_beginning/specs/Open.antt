@@ -42,7 +42,7 @@ pub record Begins (x : rules.Told) (o : Opening) (out out′ : List ℕ) : Type 
   pub wrote : Wrote out 0 (x .text) (o .at) out′
   pub sound : SoundStage (x .stage) 1
   pub begun : Begun (x .stage)
-  pub short : length (x .text) ≤ 16
+  pub short : length (x .text) ≤ rules.answerBytes
 
 -- start flags for 96 nodes
 pub record Flags (flags : List ℕ) : Type 0 where

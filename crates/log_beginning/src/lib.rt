@@ -10,7 +10,7 @@ use tree::Tree;
 ghost use mathlib.Core.Path.{_≡_};
 ghost use Prim.Native.Nat.{_≤_};
 ghost use lib.ListN.{length};
-ghost use Rattle.log_rules.specs.Answers.{fresh, over, openedBy, firstTold, lineTold};
+ghost use Rattle.log_rules.specs.Answers.{answerBytes, fresh, over, openedBy, firstTold, lineTold};
 ghost use Rattle.log_beginning.specs.Open.{Begins, Flags};
 
 // What a log has come to: nothing is read yet; a ring's run; a tree's run; or the first line was refused.
@@ -44,7 +44,7 @@ pub fn blank_tree() -> Tree {
 
 // "After a bad or missing first line the program prints only that refusal"
 pub fn refuse(e: Refusal, out: &mut [u8]) -> Opening
-    requires { ⌜ 16 ≤ length (now out) ⌝ }
+    requires { ⌜ answerBytes ≤ length (now out) ⌝ }
     ensures { λ o. ⌜ Begins (openedBy (Verdict.Refused e) over) o (now (out .entry)) (now (out .exit)) ⌝ }
 {
     let at = put_answer(out, 0, 1, Verdict::Refused(e));
@@ -59,7 +59,7 @@ pub fn refuse(e: Refusal, out: &mut [u8]) -> Opening
 }
 
 fn open_ring(f: First, out: &mut [u8]) -> Opening
-    requires { ⌜ (16 ≤ length (now out)) × Flags (f .flags) ⌝ }
+    requires { ⌜ (answerBytes ≤ length (now out)) × Flags (f .flags) ⌝ }
     ensures { λ o. ⌜ Begins (firstTold Kind.Ring f) o (now (out .entry)) (now (out .exit)) ⌝ }
 {
     let n = f.n;
@@ -86,7 +86,7 @@ fn open_ring(f: First, out: &mut [u8]) -> Opening
 }
 
 fn open_tree(f: First, out: &mut [u8]) -> Opening
-    requires { ⌜ 16 ≤ length (now out) ⌝ }
+    requires { ⌜ answerBytes ≤ length (now out) ⌝ }
     ensures { λ o. ⌜ Begins (firstTold Kind.Tree f) o (now (out .entry)) (now (out .exit)) ⌝ }
 {
     let s = Tree::start(f.n, f.root);
@@ -109,7 +109,7 @@ fn open_tree(f: First, out: &mut [u8]) -> Opening
 
 // The first line, handed over by itself.
 pub fn open_run(line: &[u8], out: &mut [u8]) -> Opening
-    requires { ⌜ 16 ≤ length (now out) ⌝ }
+    requires { ⌜ answerBytes ≤ length (now out) ⌝ }
     ensures { λ o. ⌜ Begins (lineTold fresh 1 (now (line .entry))) o (now (out .entry)) (now (out .exit)) ⌝ }
 {
     let f = read_first(line, 0);

@@ -6,6 +6,7 @@ use mathlib.Core.List.{List, [], _++_, append-nil}
 use mathlib.Core.Logic.{_⊎_, inl, inr}
 use mathlib.Core.Path.{_∙_, _≡_, ap, subst, subst⁻¹}
 use native.Mathlib.Omega.{arith}
+use Rattle.forms.specs.Form.{lineBytes}
 use Rattle.log_beginning.specs.Open.{SoundStage, stageBy}
 use Rattle.log_state.proofs.Held.{held-least}
 use Rattle.log_state.specs.Feed.{Good, stageOf}
@@ -31,7 +32,7 @@ full-cut k len h n = rw (lt-ltb 0 len (omega arith), le-ltb k lineLimit h)
 pub some-cut : (k len : ℕ) → k < lineLimit → (len ≡ 0 → ⊥) → cutText k len ≡ rules.answerText (k + 1) (Refused NotAForm)
 some-cut k len h n = rw (lt-ltb 0 len (omega arith), lt-ltb k lineLimit h)
 
-module _ (line : List ℕ) (k len : ℕ) (places : length line ≡ 700) (part : PartLine (heldOf line len)) where
+module _ (line : List ℕ) (k len : ℕ) (places : length line ≡ lineBytes) (part : PartLine (heldOf line len)) where
   -- a log that is empty, that is full, or that ends within a line
   by-end : (P : List ℕ → List ℕ → Type 0) → (len ≡ 0 → P [] []) → (lineLimit ≤ k → (len ≡ 0 → ⊥) → P (heldOf line len) [])
       → (k < lineLimit → 0 < length (heldOf line len) → P (heldOf line len) (rules.answerText (k + 1) (Refused NotAForm))) → P (heldOf line len) (cutText k len)

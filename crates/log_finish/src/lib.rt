@@ -2,25 +2,27 @@
 use log_beginning::Stage;
 use log_end::put_ring_end;
 use log_end::put_tree_end;
+use log_rules::LINE_LIMIT;
 use log_state::Log;
 use log_text::put_answer;
 use refusal::Refusal;
 use refusal::Verdict;
 ghost use Prim.Native.Nat.{_≤_};
 ghost use lib.ListN.{length};
+ghost use Rattle.log_rules.specs.Answers.{answerBytes};
 ghost use Rattle.log_text.specs.Wrote.{Wrote};
 ghost use Rattle.log_state.specs.Feed.{Good};
 ghost use Rattle.log_finish.specs.Finish.{cutText, Finished};
 
 // The refusal of a last line that is held without its byte 10.
 fn put_cut(out: &mut [u8], lines: u64, len: usize) -> usize
-    requires { ⌜ 16 ≤ length (now out) ⌝ }
-    ensures { λ r. ⌜ Wrote (now (out .entry)) 0 (cutText lines len) r (now (out .exit)) × (r ≤ 16) ⌝ }
+    requires { ⌜ answerBytes ≤ length (now out) ⌝ }
+    ensures { λ r. ⌜ Wrote (now (out .entry)) 0 (cutText lines len) r (now (out .exit)) × (r ≤ answerBytes) ⌝ }
 {
     if len == 0 {
         return 0;
     }
-    if 1000000 <= lines {
+    if LINE_LIMIT <= lines {
         return 0;
     }
     put_answer(out, 0, lines + 1, Verdict::Refused(Refusal::NotAForm))

@@ -11,7 +11,7 @@ use Rattle.forms.specs.declared.RingLine.{RingLine}
 use Rattle.forms.specs.declared.RingStep.{RingStep}
 use Rattle.log_rules.proofs.Ends.{ended-long}
 use Rattle.log_rules.proofs.InPlace.{ring-in-place, went-line, went-none, went-then}
-use Rattle.log_rules.specs.Answers.{answerText, isMove, lineTold, onRing, ringRequest, ringTold}
+use Rattle.log_rules.specs.Answers.{answerBytes, answerText, isMove, lineTold, onRing, ringRequest, ringTold}
 use Rattle.log_rules.specs.Lines.{lineLimit}
 use Rattle.log_rules.specs.Pieces.{NoMore, OneLine, Onward}
 use Rattle.log_text.proofs.Texts.{answer-short}
@@ -32,7 +32,7 @@ use Rattle.ring_rules.specs.State as rules
 use Rattle.refusal.specs.declared.Refusal.the-variants as refusals
 use Rattle.forms.specs.declared.RingLine.the-variants as ringLine
 
-told-short : (s : rules.State) (m k : ℕ) (said : RingLine) → k ≤ lineLimit → length (ringTold s m k said .text) ≤ 16
+told-short : (s : rules.State) (m k : ℕ) (said : RingLine) → k ≤ lineLimit → length (ringTold s m k said .text) ≤ answerBytes
 told-short s m k (ringLine.Step f e) h =
     let x = ringRequest f in answer-short k (stepOf s (x .kind) (x .i) (x .j) .verdict) h
 told-short s m k ringLine.NotAForm h = answer-short k (Refused refusals.NotAForm) h

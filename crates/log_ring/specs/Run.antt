@@ -4,7 +4,7 @@ use lib.ListN.{length}
 use mathlib.Core.List.{List}
 use mathlib.Core.Path.{_≡_}
 use Rattle.forms.specs.declared.RingLine.{RingLine}
-use Rattle.log_rules.specs.Answers.{onRing, ringTold}
+use Rattle.log_rules.specs.Answers.{answerBytes, onRing, ringTold}
 use Rattle.log_rules.specs.Lines.{lineLimit}
 use Rattle.log_rules.specs.Pieces.{NoMore, Went}
 use Rattle.log_text.specs.Wrote.{Wrote}
@@ -19,7 +19,7 @@ pub record Ready (r : RingRun) (s : rules.State) (out : List ℕ) : Type 0 where
   pub sound : Sound s
   pub few : r .moves ≤ r .lines
   pub under : r .lines < lineLimit
-  pub room : r .at + 16 ≤ length out
+  pub room : r .at + answerBytes ≤ length out
 
 -- the next line, of which the recogniser says `said`, is answered by the definitions: t and s′ are the run and its state after it
 pub record RingLineAnswered (r t : RingRun) (s s′ : rules.State) (said : RingLine) (end : ℕ) (out out′ : List ℕ) : Type 0 where
@@ -30,13 +30,13 @@ pub record RingLineAnswered (r t : RingRun) (s s′ : rules.State) (said : RingL
   pub sound : Sound s′
   pub few : t .moves ≤ t .lines
 
--- the state is sound, and the buffer has 16 bytes for each byte of the piece that is left
+-- the state is sound, and the buffer has the bytes of an answer for each byte of the piece that is left
 pub record Fits (s : rules.State) (moves lines : ℕ) (piece : List ℕ) (from : ℕ) (out : List ℕ) (at : ℕ) : Type 0 where
   pub sound : Sound s
   pub few : moves ≤ lines
   pub most : lines ≤ lineLimit
   pub inside : from ≤ length piece
-  pub room : at + (length piece - from) * 16 ≤ length out
+  pub room : at + (length piece - from) * answerBytes ≤ length out
 
 abbrev pub Inside : RingRun → rules.State → List ℕ → List ℕ → Type 0
 Inside r s piece out = Fits s (r .moves) (r .lines) piece (r .next) out (r .at)

@@ -2,6 +2,7 @@
 use forms::RingLine;
 use forms::RingStep;
 use log_lines::line_end;
+use log_rules::LINE_LIMIT;
 use log_text::put_answer;
 use refusal::Refusal;
 use refusal::Verdict;
@@ -15,10 +16,11 @@ ghost use mathlib.Core.Bool.{cond, _&&_};
 ghost use Prim.Native.Nat.{_+_, _≤_, _<_};
 ghost use lib.ListN.{length};
 ghost use Rattle.refusal.specs.Table.{isAccepted};
-ghost use Rattle.log_rules.specs.Answers.{answerText, ringRequest, isMove};
+ghost use Rattle.log_rules.specs.Answers.{answerBytes, answerText, ringRequest, isMove};
 ghost use Rattle.ring_check.specs.Whole.{whole};
 ghost use Rattle.ring.specs.View.{state};
 ghost use Rattle.log_text.specs.Wrote.{Wrote};
+ghost use Rattle.log_rules.specs.Lines.{lineLimit};
 ghost use Rattle.log_rules.specs.Pieces.{Onward, NoMore};
 ghost use Rattle.log_ring.specs.Run.{Ready, RingLineAnswered, Inside, RingWent, Fits, LinesFed};
 
@@ -139,7 +141,7 @@ fn step_line(
 
 // A line that says no step, which ends before index `end`.
 fn formless_line(r: RingRun, end: usize, out: &mut [u8]) -> RingRun
-    requires { ⌜ (r .lines < 1000000) × (r .at + 16 ≤ length (now out)) ⌝ }
+    requires { ⌜ (r .lines < lineLimit) × (r .at + answerBytes ≤ length (now out)) ⌝ }
     ensures { λ t. ⌜ (t .rest ≡ r .rest) × (t .moves ≡ r .moves) × (t .lines ≡ r .lines + 1) × (t .next ≡ end)
         × Wrote (now (out .entry)) (r .at) (answerText (r .lines + 1) (Verdict.Refused Refusal.NotAForm)) (t .at) (now (out .exit)) ⌝ }
 {
@@ -167,7 +169,7 @@ fn turn(
     out: &mut [u8],
 ) -> RingRun
     requires { ⌜ Inside r (whole (r .rest) (now active) (now color) (now sent) (now received) (now pending)) (now piece) (now out)
-        × (r .next < length (now piece)) × (r .lines < 1000000) ⌝ }
+        × (r .next < length (now piece)) × (r .lines < lineLimit) ⌝ }
     ensures { λ t. ⌜ RingWent r t (whole (r .rest) (now (active .entry)) (now (color .entry)) (now (sent .entry)) (now (received .entry)) (now (pending .entry)))
         (whole (t .rest) (now (active .exit)) (now (color .exit)) (now (sent .exit)) (now (received .exit)) (now (pending .exit)))
         (now (piece .entry)) (now (out .entry)) (now (out .exit))
@@ -207,7 +209,7 @@ fn run_lines(
         × NoMore (t .lines) (t .next) (now (piece .entry)) ⌝ }
 {
     let mut r = first;
-    while r.next < piece.len() && r.lines < 1000000 {
+    while r.next < piece.len() && r.lines < LINE_LIMIT {
         let t = turn(r, active, color, sent, received, pending, piece, out);
         if t.next == r.next {
             return t;

@@ -12,13 +12,13 @@ use Rattle.first_line.proofs.Opens.{first-other}
 use Rattle.first_line.specs.Start.{startForm}
 use Rattle.forms.proofs.Lines.{line-rest}
 use Rattle.forms.proofs.Steps.{ring-not, tree-not}
-use Rattle.forms.specs.Form.{Form, Says, line, ringForm, treeForm}
+use Rattle.forms.specs.Form.{Form, Says, line, lineBytes, ringForm, treeForm}
 use Rattle.log_rules.proofs.Ends.{ended-append, ended-itself, form-ended, line-ended, no-line, not-both, unended-append, unended-line}
 use Rattle.log_rules.specs.Answers.{Stage, Told, endText, fresh, lineTold, onRing, onTree, over}
 use Rattle.log_rules.specs.Lines.{lineLimit, split}
 use Rattle.log_rules.specs.Output.{linesTold, restOf}
 use Rattle.log_rules.specs.Theorems.{lineEnds}
-use Rattle.log_rules.specs.Pieces.{OneLine, PartLine, another, empty, hasLine, lineBytes, newline, notTold, preceded}
+use Rattle.log_rules.specs.Pieces.{OneLine, PartLine, another, empty, hasLine, newline, notTold, preceded}
 
 -- ---- the lines of a text
 

@@ -19,7 +19,7 @@ use Rattle.forms.specs.declared.TreeLine.{TreeLine}
 use Rattle.forms.specs.declared.TreeStep.{TreeStep}
 use Rattle.log_rules.proofs.Cuts.{rest-line}
 use Rattle.log_rules.proofs.Ends.{ended-long, form-ended, line-twice}
-use Rattle.log_rules.specs.Answers.{Stage, Told, lineTold, onRing, onTree, ringTold, treeTold}
+use Rattle.log_rules.specs.Answers.{Stage, Told, answerBytes, lineTold, onRing, onTree, ringTold, treeTold}
 use Rattle.log_rules.specs.Lines.{lineLimit}
 use Rattle.log_rules.specs.Output.{restOf}
 use Rattle.log_rules.specs.Pieces.{OneLine, Went}
@@ -90,7 +90,7 @@ went-none s k next at piece out h c = record {
 -- one is
 pub went-line : (s : Stage) (k next e at at′ : ℕ) (piece out out′ : List ℕ)
     → OneLine (line (drop next piece)) → e ≡ next + length (line (drop next piece)) → next ≤ length piece → k < lineLimit
-    → (x : Told) → x ≡ lineTold s (k + 1) (line (drop next piece)) → length (x .text) ≤ 16
+    → (x : Told) → x ≡ lineTold s (k + 1) (line (drop next piece)) → length (x .text) ≤ answerBytes
     → at′ ≡ at + length (x .text) → out′ ≡ put out at (x .text)
     → Went s (x .stage) k (k + 1) next e at at′ piece out out′
 went-line s k next e at at′ piece out out′ en is h lim x told short ends wrote =

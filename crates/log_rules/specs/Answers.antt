@@ -50,6 +50,10 @@ abbrev pub answerText : ℕ → Verdict → List ℕ
 answerText k Accepted = bytes "(ok " ++ (decimal k ++ bytes ")\n")
 answerText k (Refused e) = bytes "(no " ++ (decimal k ++ (bytes " " ++ (decimal (numberOf e) ++ bytes ")\n")))
 
+-- "each answer is at most 16 bytes"
+abbrev pub answerBytes : ℕ
+answerBytes = 16
+
 -- "boards is N; holder is the token's; moves are accepted token moves; flight is total pending; black is the count of one bits"
 abbrev pub ringEnd : ring.State → ℕ → List ℕ
 ringEnd r m =

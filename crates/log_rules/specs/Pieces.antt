@@ -6,9 +6,10 @@ use mathlib.Core.Bool.{Bool, cond, false, true}
 use mathlib.Core.List.{List, [], _++_, _∷_}
 use mathlib.Core.Path.{_≡_}
 use Rattle.decimal.specs.Text.{put}
+use Rattle.forms.specs.Form.{lineBytes}
 use Rattle.refusal.specs.declared.Refusal.the-variants.{NotAForm}
 use Rattle.refusal.specs.declared.Verdict.the-variants.{Refused}
-use Rattle.log_rules.specs.Answers.{Stage, Told, answerText, fresh, onRing, onTree, openedBy, over}
+use Rattle.log_rules.specs.Answers.{Stage, Told, answerBytes, answerText, fresh, onRing, onTree, openedBy, over}
 use Rattle.log_rules.specs.Lines.{lineLimit}
 use Rattle.log_rules.specs.Output.{restOf}
 
@@ -27,13 +28,13 @@ unfoldable pub hasLine : List ℕ → Bool
 hasLine [] = false
 hasLine (b ∷ s) = cond (eqb b 10) true (hasLine s)
 
--- "at most 700 bytes with it"
-abbrev pub lineBytes : ℕ
-lineBytes = 700
+-- the count of bytes that is told of every line that is too long
+abbrev pub longBytes : ℕ
+longBytes = lineBytes + 1
 
--- what a buffer holds of the next line: its first `len` bytes; 701 zeros stand for every line that is too long already
+-- what a buffer holds of the next line: its first `len` bytes; so many zeros stand for every line that is too long already
 abbrev pub heldOf : List ℕ → ℕ → List ℕ
-heldOf line len = cond (leb len lineBytes) (take len line) (replicate 701 0)
+heldOf line len = cond (leb len lineBytes) (take len line) (replicate longBytes 0)
 
 -- the answer to a line that says no form
 abbrev pub notTold : Stage → ℕ → Told
@@ -49,7 +50,7 @@ pub record Went (s s′ : Stage) (k k′ next next′ at at′ : ℕ) (piece out
   pub left : (rest : List ℕ) → restOf s k [] (drop next piece ++ rest) ≡ written ++ restOf s′ k′ [] (drop next′ piece ++ rest)
   pub wrote : out′ ≡ put out at written
   pub ends : at′ ≡ at + length written
-  pub room : length written + next * 16 ≤ next′ * 16
+  pub room : length written + next * answerBytes ≤ next′ * answerBytes
   pub inside : next′ ≤ length piece
   pub counts : k′ ≤ lineLimit
 

@@ -7,13 +7,13 @@ use mathlib.Core.Bool.{cond}
 use mathlib.Core.List.{List, [], _++_, _∷_}
 use mathlib.Core.Path.{_≡_}
 use Rattle.first_line.specs.Start.{Start, seen, startForm}
-use Rattle.forms.specs.Form.{Says, ringForm, treeForm}
+use Rattle.forms.specs.Form.{Says, lineBytes, ringForm, treeForm}
 use Rattle.forms.specs.declared.RingStep.{RingStep}
 use Rattle.forms.specs.declared.TreeStep.{TreeStep}
 use Rattle.log_rules.specs.Answers.{Stage, firstTold, fresh, lineTold, onRing, onTree, over, ringStepTold, treeStepTold}
 use Rattle.log_rules.specs.Lines.{linesOf, split}
 use Rattle.log_rules.specs.Output.{linesTold, outputOf}
-use Rattle.log_rules.specs.Pieces.{OneLine, PartLine, lineBytes, notTold}
+use Rattle.log_rules.specs.Pieces.{OneLine, PartLine, notTold}
 use Rattle.ring_rules.specs.State as ring
 use Rattle.tree_rules.specs.State as tree
 

@@ -9,13 +9,14 @@ use native.Mathlib.Omega.{arith}
 use Rattle.decimal.proofs.Put.{put-then}
 use Rattle.decimal.specs.Text.{put}
 use Rattle.forms.proofs.Lines.{line-rest}
+use Rattle.forms.specs.Form.{lineBytes}
 use Rattle.log_beginning.specs.Open.{Begins, Begun, SoundStage, stageBy}
 use Rattle.log_lines.specs.Lines.{part}
 use Rattle.log_rules.proofs.Cuts.{rest-full, rest-held, rest-more, rest-over}
 use Rattle.log_rules.proofs.Ends.{ended-append, no-line, unended-append}
 use Rattle.log_rules.specs.Lines.{lineLimit}
 use Rattle.log_rules.specs.Output.{restOf}
-use Rattle.log_rules.specs.Pieces.{NoMore, OneLine, PartLine, Went, cut, empty, full, hasLine, heldOf, notTold}
+use Rattle.log_rules.specs.Pieces.{NoMore, OneLine, PartLine, Went, cut, empty, full, hasLine, heldOf, longBytes, notTold}
 use Rattle.log_text.specs.Wrote.{Wrote}
 use Rattle.log_state.proofs.Held.{held-more, part-all, part-line, sound-later, stands-part, stands-rest, told-line, told-long, went-whole}
 use Rattle.log_state.specs.Feed.{FedFrom, Going, Good, HeldRest, HeldTold, Room, StandsFor, stageOf}
@@ -39,13 +40,13 @@ cut-of : {lines next : ℕ} {piece : List ℕ} → NoMore lines next piece → l
 cut-of (full h) under = absurd (let z : ⊥ = omega arith in z)
 cut-of (cut h) under = h
 
-pub held-rest : (lines next : ℕ) (piece line line′ : List ℕ) (len : ℕ) → NoMore lines next piece → lines < lineLimit → next ≤ length piece → length line ≡ 700
-    → (len ≡ min (0 + (length piece - next)) 701) × (take len line′ ≡ take 700 (take 0 line ++ part piece next (length piece)))
+pub held-rest : (lines next : ℕ) (piece line line′ : List ℕ) (len : ℕ) → NoMore lines next piece → lines < lineLimit → next ≤ length piece → length line ≡ lineBytes
+    → (len ≡ min (0 + (length piece - next)) longBytes) × (take len line′ ≡ take lineBytes (take 0 line ++ part piece next (length piece)))
     → HeldRest lines next piece len line′
 held-rest lines next piece line line′ len no-more under inside n h =
     let all = part-all piece next inside in
-    let count : len ≡ min (0 + length (drop next piece)) 701 = h .0 ∙ ap (λ (x : ℕ). min (0 + x) 701) (sym (length-drop next piece)) in
-    let same = h .1 ∙ ap (λ (x : List ℕ). take 700 (take 0 line ++ x)) all in
+    let count : len ≡ min (0 + length (drop next piece)) longBytes = h .0 ∙ ap (λ (x : ℕ). min (0 + x) longBytes) (sym (length-drop next piece)) in
+    let same = h .1 ∙ ap (λ (x : List ℕ). take lineBytes (take 0 line ++ x)) all in
     let u = no-line (drop next piece) (cut-of no-more under) in
     let s = held-more line line′ (drop next piece) 0 len n count same in
     record {
@@ -58,7 +59,7 @@ held-rest lines next piece line line′ len no-more under inside n h =
 
 pub fed-went : (f : Fed) {s : rules.Stage} {k from n at : ℕ} {piece line line′ out out′ : List ℕ}
     → Went s (stageOf (f .log)) k (f .log .lines) from n at (f .count) piece out out′ → HeldRest (f .log .lines) n piece (f .log .len) line′
-    → SoundStage (stageOf (f .log)) (f .log .lines) → length line′ ≡ 700 → Room k piece from line out at
+    → SoundStage (stageOf (f .log)) (f .log .lines) → length line′ ≡ lineBytes → Room k piece from line out at
     → FedFrom s k [] (drop from piece) f line′ at out out′
 fed-went f w h sound places r = record {
   written = w .written;
@@ -69,7 +70,7 @@ fed-went f w h sound places r = record {
 }
 
 -- nothing more is answered
-pub over-fed : (l : Log) (text line out : List ℕ) (at : ℕ) → stageOf l ≡ rules.over → l .len ≡ 0 → l .lines ≤ lineLimit → length line ≡ 700 → at ≤ length out
+pub over-fed : (l : Log) (text line out : List ℕ) (at : ℕ) → stageOf l ≡ rules.over → l .len ≡ 0 → l .lines ≤ lineLimit → length line ≡ lineBytes → at ≤ length out
     → FedFrom (stageOf l) (l .lines) [] text (record { log = l; count = at }) line at out out
 unfolding put
 over-fed l text line out at e unheld most places enough = record {
@@ -113,9 +114,9 @@ first-held x o f {k} b e under tell =
       };
     }
 
-pub long-held : (s : rules.Stage) (f : Fed) {k len : ℕ} {line out out′ : List ℕ} → 700 < len → k < lineLimit
+pub long-held : (s : rules.Stage) (f : Fed) {k len : ℕ} {line out out′ : List ℕ} → lineBytes < len → k < lineLimit
     → notTold s (k + 1) .stage ≡ stageOf (f .log) → f .log .lines ≡ k + 1 → Wrote out 0 (notTold s (k + 1) .text) (f .count) out′
-    → length (notTold s (k + 1) .text) ≤ 16 → Going (f .log) → HeldTold s k len line f out out′
+    → length (notTold s (k + 1) .text) ≤ rules.answerBytes → Going (f .log) → HeldTold s k len line f out out′
 long-held s f {k} long under st lines w few going = record {
   written = notTold s (k + 1) .text;
   left = λ l stands en rest.
@@ -128,7 +129,7 @@ long-held s f {k} long under st lines w few going = record {
   going = going;
 }
 
-pub went-held : (s : rules.Stage) (f : Fed) {k len n : ℕ} {line out out′ : List ℕ} → len ≤ 700
+pub went-held : (s : rules.Stage) (f : Fed) {k len n : ℕ} {line out out′ : List ℕ} → len ≤ lineBytes
     → Went s (stageOf (f .log)) k (f .log .lines) 0 n 0 (f .count) (take len line) out out′ → NoMore (f .log .lines) n (take len line)
     → Going (f .log) → HeldTold s k len line f out out′
 went-held s f {k} {len} {n} {line} small w no-more going = record {
@@ -177,8 +178,8 @@ full-fed l piece line out h g = record {
 }
 
 -- no line ends in the piece: it is held
-pub part-fed : (l l′ : Log) (piece line line′ out : List ℕ) (len : ℕ) → Good l line → hasLine piece ≡ false → length line′ ≡ 700
-    → (len ≡ min (l .len + (length piece - 0)) 701) × (take len line′ ≡ take 700 (take (l .len) line ++ part piece 0 (length piece)))
+pub part-fed : (l l′ : Log) (piece line line′ out : List ℕ) (len : ℕ) → Good l line → hasLine piece ≡ false → length line′ ≡ lineBytes
+    → (len ≡ min (l .len + (length piece - 0)) longBytes) × (take len line′ ≡ take lineBytes (take (l .len) line ++ part piece 0 (length piece)))
     → (stageOf l′ ≡ stageOf l) × (l′ .lines ≡ l .lines) × (l′ .len ≡ len)
     → FedFrom (stageOf l) (l .lines) (heldOf line (l .len)) piece (record { log = l′; count = 0 }) line′ 0 out out
 unfolding put
@@ -188,8 +189,8 @@ part-fed l l′ piece line line′ out len g partial places h is =
     let u = no-line piece partial in
     let all = part-all piece 0 (omega arith) in
     let w = unended-append (g .part) u in
-    let s = held-more line line′ piece (l .len) (l′ .len) (g .places) (is .2 ∙ (h .0 ∙ ap (λ (x : ℕ). min (l .len + x) 701) (sub-zero (length piece))))
-    (ap (λ (n : ℕ). take n line′) (is .2) ∙ (h .1 ∙ ap (λ (x : List ℕ). take 700 (take (l .len) line ++ x)) all)) in
+    let s = held-more line line′ piece (l .len) (l′ .len) (g .places) (is .2 ∙ (h .0 ∙ ap (λ (x : ℕ). min (l .len + x) longBytes) (sub-zero (length piece))))
+    (ap (λ (n : ℕ). take n line′) (is .2) ∙ (h .1 ∙ ap (λ (x : List ℕ). take lineBytes (take (l .len) line ++ x)) all)) in
     record {
       written = [];
       left = λ rest.
@@ -210,7 +211,7 @@ part-fed l l′ piece line line′ out len g partial places h is =
 
 -- a line ends in the piece: it is answered, and then those that follow
 pub whole-fed : (l : Log) (m f : Fed) (piece line line₁ line₂ out out₁ out₂ : List ℕ) (e len : ℕ) → Good l line → ends.Found piece 0 e
-    → (len ≡ min (l .len + (e - 0)) 701) × (take len line₁ ≡ take 700 (take (l .len) line ++ part piece 0 e))
+    → (len ≡ min (l .len + (e - 0)) longBytes) × (take len line₁ ≡ take lineBytes (take (l .len) line ++ part piece 0 e))
     → HeldTold (stageOf l) (l .lines) len line₁ m out out₁
     → FedFrom (stageOf (m .log)) (m .log .lines) [] (drop e piece) f line₂ (m .count) out₁ out₂ → length out₁ ≡ length out
     → FedFrom (stageOf l) (l .lines) (heldOf line (l .len)) piece f line₂ 0 out out₂
@@ -218,8 +219,8 @@ whole-fed l m f piece line line₁ line₂ out out₁ out₂ e len g found h a b
     let w = forms.line piece in
     let held = heldOf line (l .len) in
     let same = part-line piece e (found .past) in
-    let count : len ≡ min (l .len + length w) 701 = h .0 ∙ ap (λ (x : ℕ). min (l .len + x) 701) (sub-zero e ∙ (found .past ∙ zero-add (length w))) in
-    let s = held-more line line₁ w (l .len) len (g .places) count (h .1 ∙ ap (λ (x : List ℕ). take 700 (take (l .len) line ++ x)) same) in
+    let count : len ≡ min (l .len + length w) longBytes = h .0 ∙ ap (λ (x : ℕ). min (l .len + x) longBytes) (sub-zero e ∙ (found .past ∙ zero-add (length w))) in
+    let s = held-more line line₁ w (l .len) len (g .places) count (h .1 ∙ ap (λ (x : List ℕ). take lineBytes (take (l .len) line ++ x)) same) in
     let en = ended-append (g .part) (found .line-ends) in
     let halves : piece ≡ w ++ drop e piece = line-rest piece ∙ ap (λ (i : ℕ). w ++ drop i piece) (sym (found .past ∙ zero-add (length w))) in
     record {
@@ -240,7 +241,7 @@ whole-fed l m f piece line line₁ line₂ out out₁ out₂ e len g found h a b
     }
 
 -- nothing is read
-pub start-good : (l : Log) (line : List ℕ) → (stageOf l ≡ rules.fresh) × (l .lines ≡ 0) × (l .len ≡ 0) → length line ≡ 700 → Good l line
+pub start-good : (l : Log) (line : List ℕ) → (stageOf l ≡ rules.fresh) × (l .lines ≡ 0) × (l .len ≡ 0) → length line ≡ lineBytes → Good l line
 start-good l line e places = record {
   sound = subst⁻¹ (λ (s : rules.Stage). SoundStage s (l .lines)) (e .0) tt;
   most = omega (arith, e .1);

@@ -8,13 +8,14 @@ use mathlib.Core.Logic.{_⊎_, inl, inr}
 use mathlib.Core.Path.{_∙_, _≡_, ap, refl, subst, subst⁻¹, sym}
 use native.Mathlib.Omega.{arith}
 use Rattle.forms.proofs.Lines.{line-rest}
+use Rattle.forms.specs.Form.{lineBytes}
 use Rattle.log_beginning.specs.Open.{SoundStage}
 use Rattle.log_lines.specs.Lines.{part}
 use Rattle.log_rules.proofs.Cuts.{long-told, rest-full, rest-line, rest-long}
 use Rattle.log_rules.proofs.Ends.{ended-itself, ended-left}
 use Rattle.log_rules.specs.Lines.{lineLimit}
 use Rattle.log_rules.specs.Output.{restOf}
-use Rattle.log_rules.specs.Pieces.{NoMore, OneLine, PartLine, Went, another, cut, empty, full, heldOf, notTold}
+use Rattle.log_rules.specs.Pieces.{NoMore, OneLine, PartLine, Went, another, cut, empty, full, heldOf, longBytes, notTold}
 use Rattle.log_state.specs.Feed.{StandsFor}
 use Rattle.log_rules.specs.Answers as rules
 use Rattle.forms.specs.Form as forms
@@ -27,51 +28,51 @@ zeros-part : (n : ℕ) → PartLine (replicate n 0)
 zeros-part zero = empty
 zeros-part (suc n) = another (λ (e : _≡_ {A = ℕ} 0 10). omega arith) (zeros-part n)
 
-pub held-small : (line : List ℕ) (len : ℕ) → len ≤ 700 → heldOf line len ≡ take len line
-held-small line len h = rw (le-leb len 700 h)
+pub held-small : (line : List ℕ) (len : ℕ) → len ≤ lineBytes → heldOf line len ≡ take len line
+held-small line len h = rw (le-leb len lineBytes h)
 
-held-long : (line : List ℕ) (len : ℕ) → 700 < len → heldOf line len ≡ replicate 701 0
-held-long line len h = rw (lt-leb len 700 h)
+held-long : (line : List ℕ) (len : ℕ) → lineBytes < len → heldOf line len ≡ replicate longBytes 0
+held-long line len h = rw (lt-leb len lineBytes h)
 
-held-long-length : (line : List ℕ) (len : ℕ) → 700 < len → length (heldOf line len) ≡ 701
-held-long-length line len h = ap length (held-long line len h) ∙ length-replicate {A = ℕ} 701 0
+held-long-length : (line : List ℕ) (len : ℕ) → lineBytes < len → length (heldOf line len) ≡ longBytes
+held-long-length line len h = ap length (held-long line len h) ∙ length-replicate {A = ℕ} longBytes 0
 
-held-length : (line : List ℕ) (len : ℕ) → length line ≡ 700 → len ≤ 700 → length (heldOf line len) ≡ len
+held-length : (line : List ℕ) (len : ℕ) → length line ≡ lineBytes → len ≤ lineBytes → length (heldOf line len) ≡ len
 held-length line len n h = ap length (held-small line len h) ∙ length-take-le len line (omega arith)
 
 -- more bytes are held
-pub held-more : (line line′ w : List ℕ) (len len′ : ℕ) → length line ≡ 700 → len′ ≡ min (len + length w) 701
-    → take len′ line′ ≡ take 700 (take len line ++ w) → StandsFor line′ len′ (heldOf line len ++ w)
+pub held-more : (line line′ w : List ℕ) (len len′ : ℕ) → length line ≡ lineBytes → len′ ≡ min (len + length w) longBytes
+    → take len′ line′ ≡ take lineBytes (take len line ++ w) → StandsFor line′ len′ (heldOf line len ++ w)
 held-more line line′ w len len′ n is same = record {
   small = λ h.
-      let few : len + length w ≤ 700 = omega arith in
-      let le : len ≤ 700 = omega arith in
-      let count : length (take len line ++ w) ≤ 700 = omega (arith, length-append (take len line) w, length-take-le len line (omega arith)) in
-      ap (λ (x : List ℕ). x ++ w) (held-small line len le) ∙ (sym (take-all 700 (take len line ++ w) count) ∙ sym same);
-  long = λ h. go (cases.split len 701) h;
+      let few : len + length w ≤ lineBytes = omega arith in
+      let le : len ≤ lineBytes = omega arith in
+      let count : length (take len line ++ w) ≤ lineBytes = omega (arith, length-append (take len line) w, length-take-le len line (omega arith)) in
+      ap (λ (x : List ℕ). x ++ w) (held-small line len le) ∙ (sym (take-all lineBytes (take len line ++ w) count) ∙ sym same);
+  long = λ h. go (cases.split len longBytes) h;
 }
   where
-    go : (len < 701) ⊎ (701 ≤ len) → 700 < len′ → 700 < length (heldOf line len ++ w)
+    go : (len < longBytes) ⊎ (longBytes ≤ len) → lineBytes < len′ → lineBytes < length (heldOf line len ++ w)
     go (inl lt) h = omega (arith, length-append (heldOf line len) w, held-length line len n (omega arith))
     go (inr le) h = omega (arith, length-append (heldOf line len) w, held-long-length line len (omega arith))
 
 -- what stands there may be exchanged for what is held
 module _ (line : List ℕ) (len : ℕ) {l : List ℕ} (s : StandsFor line len l) (u : PartLine l) where
-  by-held : (P : List ℕ → Type 0) → (len ≤ 700 → P (take len line)) → (700 < len → P (replicate 701 0)) → P (heldOf line len)
-  by-held P f g = go (cases.split len 701)
+  by-held : (P : List ℕ → Type 0) → (len ≤ lineBytes → P (take len line)) → (lineBytes < len → P (replicate longBytes 0)) → P (heldOf line len)
+  by-held P f g = go (cases.split len longBytes)
     where
-      go : (len < 701) ⊎ (701 ≤ len) → P (heldOf line len)
+      go : (len < longBytes) ⊎ (longBytes ≤ len) → P (heldOf line len)
       go (inl lt) = subst⁻¹ P (held-small line len (omega arith)) (f (omega arith))
       go (inr le) = subst⁻¹ P (held-long line len (omega arith)) (g (omega arith))
 
   pub stands-part : PartLine (heldOf line len)
-  stands-part = by-held PartLine (λ h. subst PartLine (s .small h) u) (λ h. zeros-part 701)
+  stands-part = by-held PartLine (λ h. subst PartLine (s .small h) u) (λ h. zeros-part longBytes)
 
   pub stands-rest : (st : rules.Stage) (k : ℕ) (rest : List ℕ) → restOf st k l rest ≡ restOf st k (heldOf line len) rest
   stands-rest st k rest =
       by-held (λ x. restOf st k l rest ≡ restOf st k x rest)
       (λ h. ap (λ (x : List ℕ). restOf st k x rest) (s .small h))
-      (λ h. rest-long st k u (zeros-part 701) (s .long h) (omega (arith, length-replicate {A = ℕ} 701 0)) rest)
+      (λ h. rest-long st k u (zeros-part longBytes) (s .long h) (omega (arith, length-replicate {A = ℕ} longBytes 0)) rest)
 
 pub part-all : (p : List ℕ) (from : ℕ) → from ≤ length p → part p from (length p) ≡ drop from p
 part-all p from h = take-all (length p - from) (drop from p) (omega (arith, length-drop from p))
@@ -98,7 +99,7 @@ told-line s k h en is rest =
     rest-line s k en [] rest h ∙ ap (λ (t : rules.Told). t .text ++ restOf (t .stage) (k + 1) [] rest) is
 
 -- too long
-pub told-long : (s : rules.Stage) (k : ℕ) {l : List ℕ} → k < lineLimit → OneLine l → 700 < length l
+pub told-long : (s : rules.Stage) (k : ℕ) {l : List ℕ} → k < lineLimit → OneLine l → lineBytes < length l
     → (rest : List ℕ) → restOf s k [] (l ++ rest) ≡ notTold s (k + 1) .text ++ restOf (notTold s (k + 1) .stage) (k + 1) [] rest
 told-long s k {l} h en long rest = told-line s k h en (long-told s (k + 1) l (ended-itself en) long) rest
 
@@ -114,9 +115,9 @@ sound-later (rules.onTree t) k h x = x
 sound-later rules.over k h x = tt
 
 -- as many bytes are held as are counted
-pub held-least : (line : List ℕ) (len : ℕ) → length line ≡ 700 → min len 701 ≤ length (heldOf line len)
-held-least line len n = go (cases.split len 701)
+pub held-least : (line : List ℕ) (len : ℕ) → length line ≡ lineBytes → min len longBytes ≤ length (heldOf line len)
+held-least line len n = go (cases.split len longBytes)
   where
-    go : (len < 701) ⊎ (701 ≤ len) → min len 701 ≤ length (heldOf line len)
+    go : (len < longBytes) ⊎ (longBytes ≤ len) → min len longBytes ≤ length (heldOf line len)
     go (inl lt) = omega (arith, held-length line len n (omega arith))
     go (inr le) = omega (arith, held-long-length line len (omega arith))

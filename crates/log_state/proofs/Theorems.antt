@@ -10,14 +10,14 @@ use native.Mathlib.Omega.{arith}
 use Rattle.decimal.specs.Text.{decimal, digits}
 use Rattle.first_line.specs.Start.{bare}
 use Rattle.forms.proofs.Lines.{line-rest}
-use Rattle.forms.specs.Form.{Says, bareRing, formText}
+use Rattle.forms.specs.Form.{Says, bareRing, formText, lineBytes}
 use Rattle.laws.proofs.Tests.{both, both-true, false-true, neither, one-of, right-true}
 use Rattle.log_rules.proofs.Cuts.{rest-cut, rest-done, rest-full, rest-held, rest-more, rest-over}
 use Rattle.log_rules.proofs.Ends.{ended-append, ended-long, form-ended, line-ended, no-line, unended-append}
 use Rattle.log_rules.proofs.Theorems.{lines-say}
 use Rattle.log_rules.specs.Lines.{lineLimit}
 use Rattle.log_rules.specs.Output.{restOf}
-use Rattle.log_rules.specs.Pieces.{PartLine, another, empty, hasLine, heldOf, lineBytes, notTold}
+use Rattle.log_rules.specs.Pieces.{PartLine, another, empty, hasLine, heldOf, notTold}
 use Rattle.refusal.specs.declared.Refusal.the-variants.{NotAForm}
 use Rattle.refusal.specs.declared.Verdict.the-variants.{Refused}
 use Rattle.log_state.proofs.Held.{held-least, told-line, told-long}
@@ -83,7 +83,7 @@ module _ (s : rules.Stage) (k : ℕ) {held : List ℕ} (part : PartLine held) (m
   too-long : (rest : List ℕ) → restOf s k held rest ≡ restOf s k held []
   too-long rest = refused rest (hasLine rest) refl ∙ sym (refused [] (hasLine []) refl)
 
-module _ (line : List ℕ) (k len : ℕ) (places : length line ≡ 700) (part : PartLine (heldOf line len)) (rest : List ℕ) where
+module _ (line : List ℕ) (k len : ℕ) (places : length line ≡ lineBytes) (part : PartLine (heldOf line len)) (rest : List ℕ) where
   abbrev Same : rules.Stage → Type 0
   Same s = restOf s k (heldOf line len) rest ≡ restOf s k (heldOf line len) []
 

@@ -5,10 +5,12 @@ use lib.ListN.{drop, length, take}
 use mathlib.Core.Bool.{Bool, _&&_, _||_, true}
 use mathlib.Core.List.{List, [], _++_}
 use mathlib.Core.Path.{_≡_}
+use Rattle.forms.specs.Form.{lineBytes}
 use Rattle.log_beginning.specs.Open.{Begun, SoundStage, stageBy}
+use Rattle.log_rules.specs.Answers.{answerBytes}
 use Rattle.log_rules.specs.Lines.{lineLimit}
 use Rattle.log_rules.specs.Output.{restOf}
-use Rattle.log_rules.specs.Pieces.{OneLine, PartLine, heldOf, lineBytes}
+use Rattle.log_rules.specs.Pieces.{OneLine, PartLine, heldOf, longBytes}
 use Rattle.log_text.specs.Wrote.{Wrote}
 use Rattle.log_state.specs.declared.Fed.{Fed}
 use Rattle.log_state.specs.declared.Log.{Log}
@@ -21,8 +23,8 @@ stageOf l = stageBy (l .stage) (l .ring) (l .moves) (l .tree)
 pub record Good (l : Log) (line : List ℕ) : Type 0 where
   pub sound : SoundStage (stageOf l) (l .lines)
   pub most : l .lines ≤ lineLimit
-  pub fits : l .len ≤ 701
-  pub places : length line ≡ 700
+  pub fits : l .len ≤ longBytes
+  pub places : length line ≡ lineBytes
   pub part : PartLine (heldOf line (l .len))
 
 -- THE CONTRACT of a piece: where k lines are answered by stage s and `held` is read of the next, the bytes `text` make the log `f .log`, and
@@ -59,16 +61,16 @@ decided l = decidedBy (stageOf l) (l .lines) (l .len)
 
 -- ---- between the functions
 
--- the buffers have room: 16 bytes of answers for each byte of the piece that is left
+-- the buffers have room: the bytes of an answer for each byte of the piece that is left
 pub record Room (lines : ℕ) (piece : List ℕ) (from : ℕ) (line out : List ℕ) (at : ℕ) : Type 0 where
   pub most : lines ≤ lineLimit
   pub inside : from ≤ length piece
-  pub places : length line ≡ 700
-  pub room : at + (length piece - from) * 16 ≤ length out
+  pub places : length line ≡ lineBytes
+  pub room : at + (length piece - from) * answerBytes ≤ length out
 
 -- what is left of a piece is held
 pub record HeldRest (lines next : ℕ) (piece : List ℕ) (len : ℕ) (line′ : List ℕ) : Type 0 where
-  pub fits : len ≤ 701
+  pub fits : len ≤ longBytes
   pub part : PartLine (heldOf line′ len)
   pub left : (s : rules.Stage) (rest : List ℕ) → restOf s lines [] (drop next piece ++ rest) ≡ restOf s lines (heldOf line′ len) rest
 
@@ -85,8 +87,8 @@ pub record StandsFor (line : List ℕ) (len : ℕ) (l : List ℕ) : Type 0 where
 
 pub record HeldReady (lines len : ℕ) (line out : List ℕ) : Type 0 where
   pub under : lines < lineLimit
-  pub places : length line ≡ 700
-  pub room : 700 * 16 ≤ length out
+  pub places : length line ≡ lineBytes
+  pub room : lineBytes * answerBytes ≤ length out
 
 -- the line that the buffer stands for is answered
 pub record HeldTold (s : rules.Stage) (k len : ℕ) (line : List ℕ) (f : Fed) (out out′ : List ℕ) : Type 0 where
@@ -94,6 +96,6 @@ pub record HeldTold (s : rules.Stage) (k len : ℕ) (line : List ℕ) (f : Fed) 
   pub left : (l : List ℕ) → StandsFor line len l → OneLine l → (rest : List ℕ)
       → restOf s k [] (l ++ rest) ≡ written ++ restOf (stageOf (f .log)) (f .log .lines) [] rest
   pub wrote : Wrote out 0 written (f .count) out′
-  pub short : f .count ≤ 700 * 16
+  pub short : f .count ≤ lineBytes * answerBytes
   pub most : f .log .lines ≤ lineLimit
   pub going : Going (f .log)

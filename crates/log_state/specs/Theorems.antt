@@ -3,9 +3,10 @@ use Prim.Native.Nat.{_+_, _≤_, ℕ}
 use mathlib.Core.Bool.{false, true}
 use mathlib.Core.List.{List, []}
 use mathlib.Core.Path.{_≡_}
+use Rattle.forms.specs.Form.{lineBytes}
 use Rattle.log_rules.specs.Lines.{lineLimit}
 use Rattle.log_rules.specs.Output.{restOf}
-use Rattle.log_rules.specs.Pieces.{heldOf, lineBytes}
+use Rattle.log_rules.specs.Pieces.{heldOf}
 use Rattle.log_state.specs.Feed.{Good, decided, stageOf}
 use Rattle.log_state.specs.declared.Log.{Log}
 use Rattle.log_rules.specs.Answers as rules

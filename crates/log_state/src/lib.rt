@@ -1,9 +1,11 @@
 // A log as far as it is read, and the line that is held of it, answered once it is whole.
+use forms::LINE_BYTES;
 use log_beginning::Opening;
 use log_beginning::Stage;
 use log_beginning::open_run;
 use log_beginning::refuse;
 use log_ring::ring_piece;
+use log_rules::LINE_LIMIT;
 use log_text::put_answer;
 use log_tree::tree_piece;
 use refusal::Refusal;
@@ -15,11 +17,12 @@ ghost use Prim.Native.Nat.{_+_, _<_};
 ghost use Rattle.ring.specs.View as ringView;
 ghost use Rattle.tree.specs.View as treeView;
 ghost use Rattle.log_rules.specs.Answers.{fresh, onRing, onTree};
+ghost use Rattle.log_rules.specs.Lines.{lineLimit};
 ghost use Rattle.log_beginning.specs.Open.{SoundStage, stageBy};
 ghost use Rattle.log_state.specs.Feed.{stageOf, decided, HeldReady, HeldTold};
 
 // A log as far as it is read: what it has come to, the accepted token moves, the lines answered, and how many bytes are held of the next
-// line in a buffer of 700 (701: it is too long).
+// line in a buffer of LINE_BYTES (one more: it is too long).
 pub struct Log {
     pub stage: Stage,
     pub ring: Ring,
@@ -37,7 +40,7 @@ pub struct Fed {
 
 // The log after its first line.
 fn begun(o: Opening, lines: u64) -> Fed
-    requires { ⌜ lines < 1000000 ⌝ }
+    requires { ⌜ lines < lineLimit ⌝ }
     ensures { λ f. ⌜ (stageOf (f .log) ≡ stageBy (o .stage) (o .ring) 0 (o .tree)) × (f .log .lines ≡ lines + 1) × (f .log .len ≡ 0) × (f .count ≡ o .at) ⌝ }
 {
     let stage = o.stage;
@@ -59,7 +62,7 @@ fn held_first(lines: u64, len: usize, line: &[u8], out: &mut [u8]) -> Fed
     requires { ⌜ HeldReady lines len (now line) (now out) ⌝ }
     ensures { λ f. ⌜ HeldTold fresh lines len (now (line .entry)) f (now (out .entry)) (now (out .exit)) ⌝ }
 {
-    if 700 < len {
+    if LINE_BYTES < len {
         return begun(refuse(Refusal::NotAForm, out), lines);
     }
     begun(open_run(&line[..len], out), lines)
@@ -78,7 +81,7 @@ fn held_ring(
     requires { ⌜ HeldReady lines len (now line) (now out) × SoundStage (onRing (ringView.state ring) moves) lines ⌝ }
     ensures { λ f. ⌜ HeldTold (onRing (ringView.state ring) moves) lines len (now (line .entry)) f (now (out .entry)) (now (out .exit)) ⌝ }
 {
-    if 700 < len {
+    if LINE_BYTES < len {
         let at = put_answer(out, 0, lines + 1, Verdict::Refused(Refusal::NotAForm));
         let log = Log {
             stage: Stage::Ring,
@@ -108,7 +111,7 @@ fn held_tree(ring: Ring, tree: Tree, lines: u64, len: usize, line: &[u8], out: &
     requires { ⌜ HeldReady lines len (now line) (now out) × SoundStage (onTree (treeView.state tree)) lines ⌝ }
     ensures { λ f. ⌜ HeldTold (onTree (treeView.state tree)) lines len (now (line .entry)) f (now (out .entry)) (now (out .exit)) ⌝ }
 {
-    if 700 < len {
+    if LINE_BYTES < len {
         let at = put_answer(out, 0, lines + 1, Verdict::Refused(Refusal::NotAForm));
         let log = Log {
             stage: Stage::Tree,
@@ -142,7 +145,7 @@ pub fn holding(log: Log, len: usize) -> Log
     l
 }
 
-// The line that is held whole: `len` bytes of the buffer, 701 if it is too long.
+// The line that is held whole: `len` bytes of the buffer, more than it has if it is too long.
 pub fn answer_held(log: Log, len: usize, line: &[u8], out: &mut [u8]) -> Fed
     requires { ⌜ HeldReady (log .lines) len (now line) (now out) × SoundStage (stageOf log) (log .lines) ⌝ }
     ensures { λ f. ⌜ HeldTold (stageOf log) (log .lines) len (now (line .entry)) f (now (out .entry)) (now (out .exit)) ⌝ }
@@ -169,8 +172,8 @@ pub fn is_decided(log: Log) -> bool
     ensures { λ r. ⌜ r ≡ decided log ⌝ }
 {
     let stage = log.stage;
-    let full = 1000000 <= log.lines;
-    let long = 700 <= log.len;
+    let full = LINE_LIMIT <= log.lines;
+    let long = LINE_BYTES <= log.len;
     let last = full | (long & (999999 <= log.lines));
     match stage {
         Stage::Fresh => full | long,

@@ -7,7 +7,7 @@ use native.Mathlib.Omega.{arith}
 use Rattle.decimal.proofs.Decimal.{decimal-width}
 use Rattle.decimal.proofs.Put.{put-then}
 use Rattle.decimal.specs.Text.{decimal, put}
-use Rattle.log_rules.specs.Answers.{answerText}
+use Rattle.log_rules.specs.Answers.{answerBytes, answerText}
 use Rattle.log_rules.specs.Lines.{lineLimit}
 use Rattle.refusal.specs.Table.{numberOf}
 use Rattle.refusal.specs.declared.Refusal.{Refusal}
@@ -48,7 +48,7 @@ number-two NotAForm = omega arith
 number-two MoveLimit = omega arith
 number-two ShortBuffer = omega arith
 
-pub answer-short : (k : ℕ) (v : Verdict) → k ≤ lineLimit → length (answerText k v) ≤ 16
+pub answer-short : (k : ℕ) (v : Verdict) → k ≤ lineLimit → length (answerText k v) ≤ answerBytes
 answer-short k Accepted h = simp length-append (omega (arith, decimal-width 6 k (omega arith)))
 answer-short k (Refused e) h =
     simp length-append (omega (arith, decimal-width 6 k (omega arith), decimal-width 1 (numberOf e) (omega (arith, number-two e))))

@@ -10,7 +10,7 @@ use Rattle.forms.specs.declared.TreeLine.{TreeLine}
 use Rattle.forms.specs.declared.TreeStep.{TreeStep}
 use Rattle.log_rules.proofs.Ends.{ended-long}
 use Rattle.log_rules.proofs.InPlace.{tree-in-place, went-line, went-none, went-then}
-use Rattle.log_rules.specs.Answers.{answerText, lineTold, onTree, treeRequest, treeTold}
+use Rattle.log_rules.specs.Answers.{answerBytes, answerText, lineTold, onTree, treeRequest, treeTold}
 use Rattle.log_rules.specs.Lines.{lineLimit}
 use Rattle.log_rules.specs.Pieces.{NoMore, OneLine, Onward}
 use Rattle.log_text.proofs.Texts.{answer-short}
@@ -30,7 +30,7 @@ use Rattle.tree_rules.specs.State as rules
 use Rattle.refusal.specs.declared.Refusal.the-variants as refusals
 use Rattle.forms.specs.declared.TreeLine.the-variants as treeLine
 
-told-short : (s : rules.State) (k : ℕ) (said : TreeLine) → k ≤ lineLimit → length (treeTold s k said .text) ≤ 16
+told-short : (s : rules.State) (k : ℕ) (said : TreeLine) → k ≤ lineLimit → length (treeTold s k said .text) ≤ answerBytes
 told-short s k (treeLine.Step f e) h =
     let x = treeRequest f in answer-short k (stepOf s (x .kind) (x .i) (x .j) .verdict) h
 told-short s k treeLine.NotAForm h = answer-short k (Refused refusals.NotAForm) h

@@ -4,7 +4,7 @@ use lib.ListN.{length}
 use mathlib.Core.List.{List}
 use mathlib.Core.Path.{_≡_}
 use Rattle.forms.specs.declared.TreeLine.{TreeLine}
-use Rattle.log_rules.specs.Answers.{onTree, treeTold}
+use Rattle.log_rules.specs.Answers.{answerBytes, onTree, treeTold}
 use Rattle.log_rules.specs.Lines.{lineLimit}
 use Rattle.log_rules.specs.Pieces.{NoMore, Went}
 use Rattle.log_text.specs.Wrote.{Wrote}
@@ -18,7 +18,7 @@ use Rattle.tree_rules.specs.State as rules
 pub record Ready (r : TreeRun) (s : rules.State) (out : List ℕ) : Type 0 where
   pub sound : Sound s
   pub under : r .lines < lineLimit
-  pub room : r .at + 16 ≤ length out
+  pub room : r .at + answerBytes ≤ length out
 
 -- the next line, of which the recogniser says `said`, is answered by the definitions: t and s′ are the run and its state after it
 pub record TreeLineAnswered (r t : TreeRun) (s s′ : rules.State) (said : TreeLine) (end : ℕ) (out out′ : List ℕ) : Type 0 where
@@ -28,12 +28,12 @@ pub record TreeLineAnswered (r t : TreeRun) (s s′ : rules.State) (said : TreeL
   pub past : t .next ≡ end
   pub sound : Sound s′
 
--- the state is sound, and the buffer has 16 bytes for each byte of the piece that is left
+-- the state is sound, and the buffer has the bytes of an answer for each byte of the piece that is left
 pub record Fits (s : rules.State) (lines : ℕ) (piece : List ℕ) (from : ℕ) (out : List ℕ) (at : ℕ) : Type 0 where
   pub sound : Sound s
   pub most : lines ≤ lineLimit
   pub inside : from ≤ length piece
-  pub room : at + (length piece - from) * 16 ≤ length out
+  pub room : at + (length piece - from) * answerBytes ≤ length out
 
 abbrev pub Inside : TreeRun → rules.State → List ℕ → List ℕ → Type 0
 Inside r s piece out = Fits s (r .lines) piece (r .next) out (r .at)

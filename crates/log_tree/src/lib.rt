@@ -2,6 +2,7 @@
 use forms::TreeLine;
 use forms::TreeStep;
 use log_lines::line_end;
+use log_rules::LINE_LIMIT;
 use log_text::put_answer;
 use refusal::Refusal;
 use refusal::Verdict;
@@ -13,10 +14,11 @@ use tree_forms::tree_step;
 ghost use mathlib.Core.Path.{_≡_};
 ghost use Prim.Native.Nat.{_+_, _≤_, _<_};
 ghost use lib.ListN.{length};
-ghost use Rattle.log_rules.specs.Answers.{answerText, treeRequest};
+ghost use Rattle.log_rules.specs.Answers.{answerBytes, answerText, treeRequest};
 ghost use Rattle.tree_check.specs.Whole.{whole};
 ghost use Rattle.tree.specs.View.{state};
 ghost use Rattle.log_text.specs.Wrote.{Wrote};
+ghost use Rattle.log_rules.specs.Lines.{lineLimit};
 ghost use Rattle.log_rules.specs.Pieces.{Onward, NoMore};
 ghost use Rattle.log_tree.specs.Run.{Ready, TreeLineAnswered, Inside, TreeWent, Fits, LinesFed};
 
@@ -105,7 +107,7 @@ fn step_line(
 
 // A line that says no step, which ends before index `end`.
 fn formless_line(r: TreeRun, end: usize, out: &mut [u8]) -> TreeRun
-    requires { ⌜ (r .lines < 1000000) × (r .at + 16 ≤ length (now out)) ⌝ }
+    requires { ⌜ (r .lines < lineLimit) × (r .at + answerBytes ≤ length (now out)) ⌝ }
     ensures { λ t. ⌜ (t .rest ≡ r .rest) × (t .lines ≡ r .lines + 1) × (t .next ≡ end)
         × Wrote (now (out .entry)) (r .at) (answerText (r .lines + 1) (Verdict.Refused Refusal.NotAForm)) (t .at) (now (out .exit)) ⌝ }
 {
@@ -132,7 +134,7 @@ fn turn(
     out: &mut [u8],
 ) -> TreeRun
     requires { ⌜ Inside r (whole (r .rest) (now active) (now engager) (now unacked) (now transit) (now acks)) (now piece) (now out)
-        × (r .next < length (now piece)) × (r .lines < 1000000) ⌝ }
+        × (r .next < length (now piece)) × (r .lines < lineLimit) ⌝ }
     ensures { λ t. ⌜ TreeWent r t (whole (r .rest) (now (active .entry)) (now (engager .entry)) (now (unacked .entry)) (now (transit .entry)) (now (acks .entry)))
         (whole (t .rest) (now (active .exit)) (now (engager .exit)) (now (unacked .exit)) (now (transit .exit)) (now (acks .exit)))
         (now (piece .entry)) (now (out .entry)) (now (out .exit))
@@ -172,7 +174,7 @@ fn run_lines(
         × NoMore (t .lines) (t .next) (now (piece .entry)) ⌝ }
 {
     let mut r = first;
-    while r.next < piece.len() && r.lines < 1000000 {
+    while r.next < piece.len() && r.lines < LINE_LIMIT {
         let t = turn(r, active, engager, unacked, transit, acks, piece, out);
         if t.next == r.next {
             return t;

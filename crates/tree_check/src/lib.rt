@@ -1,5 +1,6 @@
 // The soundness check of a tree state over lent columns: what is large is lent, the rest goes by value.
 use refusal::Refusal;
+use refusal::SEND_LIMIT;
 use refusal::Verdict;
 ghost use mathlib.Core.Path.{_≡_};
 ghost use mathlib.Core.Bool.{cond};
@@ -231,7 +232,7 @@ pub fn is_sound<'a>(
     if !places_ok(r, active, engager, unacked, transit, acks) {
         return false;
     }
-    if !((sum_of(unacked) <= wide(r.sends)) & (r.sends <= 1000000)) {
+    if !((sum_of(unacked) <= wide(r.sends)) & (r.sends <= SEND_LIMIT)) {
         return false;
     }
     if r.closed {

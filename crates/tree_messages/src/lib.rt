@@ -1,5 +1,6 @@
 // The steps of messages over lent columns, of an open state: send, take and idle.
 use refusal::Refusal;
+use refusal::SEND_LIMIT;
 use refusal::Verdict;
 use tree_check::Rest;
 use tree_check::Told;
@@ -38,7 +39,7 @@ pub fn send<'a>(
     if !active[i] {
         return refused(r, Refusal::RuleFails);
     }
-    if 1000000 <= r.sends {
+    if SEND_LIMIT <= r.sends {
         return refused(r, Refusal::SendLimit);
     }
     unacked[i] += 1;

@@ -1,8 +1,12 @@
 // Reads a log from standard input in pieces of 64 KiB and writes the answers to standard output, one write for each piece.
+use forms::LINE_BYTES;
+use log_rules::ANSWER_BYTES;
 use log_state::Log;
 ghost use mathlib.Core.Path.{_≡_};
 ghost use Prim.Native.Nat.{_+_, _*_, _≤_};
 ghost use lib.ListN.{length};
+ghost use Rattle.forms.specs.Form.{lineBytes};
+ghost use Rattle.log_rules.specs.Answers.{answerBytes};
 ghost use Rattle.log_state.specs.Feed.{Good};
 ghost use Rattle.watch.specs.Turn.{PieceAnswered, after, Turned};
 ghost use Rattle.watch.specs.Run.{turnLimit, Pumped, ProgramRan};
@@ -17,7 +21,7 @@ pub struct Step {
 
 // The lines of a piece into which read has put its first `got` bytes, answered in `out`.
 fn answer(log: Log, piece: &[u8], got: isize, line: &mut [u8], out: &mut [u8]) -> Step
-    requires { ⌜ Good log (now line) × ((length (now piece) + 700) * 16 ≤ length (now out)) ⌝ }
+    requires { ⌜ Good log (now line) × ((length (now piece) + lineBytes) * answerBytes ≤ length (now out)) ⌝ }
     ensures { λ s. ⌜ PieceAnswered log (now (piece .entry)) got s (now (line .entry)) (now (line .exit)) (now (out .entry)) (now (out .exit)) ⌝ }
 {
     let n = io::count(got, piece);
@@ -50,7 +54,7 @@ fn turned(s: Step, written: bool) -> Step
 // this write's answer. What the contracts of read and write leave open: that the bytes in the buffer are the input's, and that those handed
 // to write are put out.
 fn one_piece(log: Log, piece: &mut [u8], line: &mut [u8], out: &mut [u8]) -> Step
-    requires { ⌜ Good log (now line) × ((length (now piece) + 700) * 16 ≤ length (now out)) ⌝ }
+    requires { ⌜ Good log (now line) × ((length (now piece) + lineBytes) * answerBytes ≤ length (now out)) ⌝ }
     ensures { λ s. ⌜ Turned log (now (piece .exit)) s (now (line .entry)) (now (line .exit)) (now (out .entry)) (now (out .exit)) ⌝ }
 {
     let got = libc::read(libc::STDIN_FILENO, piece);
@@ -63,7 +67,7 @@ fn one_piece(log: Log, piece: &mut [u8], line: &mut [u8], out: &mut [u8]) -> Ste
 // All pieces. A proved loop has to end, and nothing says that the input does: the turns are counted down from a number that no run uses up.
 // That they are used up would be a failure: there would be more to read.
 fn pump(first: Log, piece: &mut [u8], line: &mut [u8], out: &mut [u8]) -> Step
-    requires { ⌜ Good first (now line) × ((length (now piece) + 700) * 16 ≤ length (now out)) ⌝ }
+    requires { ⌜ Good first (now line) × ((length (now piece) + lineBytes) * answerBytes ≤ length (now out)) ⌝ }
     ensures { λ s. ⌜ Pumped turnLimit first (now (line .entry)) s (now (line .exit)) ⌝ }
 {
     let mut log = first;
@@ -87,7 +91,7 @@ fn pump(first: Log, piece: &mut [u8], line: &mut [u8], out: &mut [u8]) -> Step
 // All pieces, and what is still to be written then, the first `count` bytes of `out`. Where a read or a write failed, that is nothing: what
 // was read is not the whole log.
 fn run(piece: &mut [u8], line: &mut [u8], out: &mut [u8]) -> Step
-    requires { ⌜ (length (now line) ≡ 700) × ((length (now piece) + 700) * 16 ≤ length (now out)) ⌝ }
+    requires { ⌜ (length (now line) ≡ lineBytes) × ((length (now piece) + lineBytes) * answerBytes ≤ length (now out)) ⌝ }
     ensures { λ s. ⌜ ProgramRan s (now (out .exit)) ⌝ }
 {
     let s = pump(log::start(), piece, line, out);
@@ -109,17 +113,19 @@ fn run(piece: &mut [u8], line: &mut [u8], out: &mut [u8]) -> Step
     }
 }
 
-// 16 bytes for each byte of a piece and of the line that is held.
-fn answers() -> [u8; 1059776]
-    ensures { λ r. ⌜ 1059776 ≡ length r ⌝ }
+// The bytes of an answer for each byte of a piece (64 KiB) and of the line that is held.
+const OUT_BYTES: usize = (65536 + LINE_BYTES) * ANSWER_BYTES;
+
+fn answers() -> [u8; OUT_BYTES]
+    ensures { λ r. ⌜ (65536 + lineBytes) * answerBytes ≡ length r ⌝ }
 {
-    [0; 1059776]
+    [0; OUT_BYTES]
 }
 
 // Left to reading: that the first `count` bytes of `out` go to write after the last turn, and that a failure is told.
 fn main() {
     let mut piece = io::large_buffer();
-    let mut line = [0u8; 700];
+    let mut line = [0u8; LINE_BYTES];
     let mut out = answers();
     let s = run(&mut piece, &mut line, &mut out);
     let count = s.count;

@@ -4,6 +4,8 @@ use lib.ListN.{length, take}
 use mathlib.Core.List.{_++_}
 use mathlib.Core.Path.{_∙_, _≡_, refl}
 use native.Mathlib.Omega.{arith}
+use Rattle.log_rules.specs.Pieces.{longBytes}
+use Rattle.forms.specs.Form.{lineBytes}
 use Rattle.log_lines.proofs.Parts.{count-more, hold-end, hold-more}
 use Rattle.log_lines.specs.Lines.{part}
 use Rattle.log_lines.proofs.hold.Statement.{statement}
@@ -11,8 +13,8 @@ use Rattle.log_lines.proofs.hold.Tie as tie
 
 abbrev Inv-loop : tie.InvT-loop
 Inv-loop piece from to line₀ len k₀ i₀ line k i =
-    (from ≤ i) × (i ≤ to) × (k ≤ 701) × (length line ≡ 700) × (min (k + (to - i)) 701 ≡ min (len + (to - from)) 701)
-    × (take 700 (take k line ++ part piece i to) ≡ take 700 (take len line₀ ++ part piece from to))
+    (from ≤ i) × (i ≤ to) × (k ≤ longBytes) × (length line ≡ lineBytes) × (min (k + (to - i)) longBytes ≡ min (len + (to - from)) longBytes)
+    × (take lineBytes (take k line ++ part piece i to) ≡ take lineBytes (take len line₀ ++ part piece from to))
 
 abbrev μ-loop : tie.MeasureT-loop
 μ-loop piece from to line₀ len k₀ i₀ line k i = to - i

@@ -6,7 +6,7 @@ use Rattle.watch.proofs.answers.Statement.{statement}
 use Rattle.watch.proofs.answers.Tie as tie
 
 returns : tie.Need-returns
-returns c = sym (length-replicate {0} {A = ℕ} 1059776 0)
+returns c = sym (length-replicate {0} {A = ℕ} _ 0)
 
 pub answers-spec : {M : Type 1} → statement M
 answers-spec = tie.close (tie.spec returns)
