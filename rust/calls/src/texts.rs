@@ -1,42 +1,49 @@
 //! The text of the tree: random trees out and back, short buffers, unsound trees, and damaged texts.
 
+use crate::answers::Answers;
 use crate::lent::{bytes, LentTree};
-use crate::{fail, proved};
-use second::generate::Rng;
+use crate::{fail, proved, LEAST};
+use second::generate::{Model, Rng};
 use second::refusal::Refusal;
-use second::request::Request;
+use second::report::Report;
 use second::text;
 use second::tree::{Tree, MAX_NODES};
 
-pub fn compare(seed: u64) {
+const TREES: usize = 20_000;
+
+pub fn compare(seed: u64, report: &mut Report) {
     let mut random = Rng::new(seed);
-    let (mut written, mut damaged, mut accepted) = (0, 0, 0);
-    for _ in 0..20_000 {
+    let mut written = Answers::new("texts written");
+    let mut read = Answers::new("texts read back");
+    let mut damaged = Answers::new("damaged texts read");
+    for _ in 0..TREES {
         let tree = grown(&mut random);
-        same_text(seed, &LentTree::of(&tree), &mut random);
+        written.count(same_text(seed, &LentTree::of(&tree), &mut random));
         same_text(seed, &noise(&mut random), &mut random);
-        written += 1;
         let mut buffer = [0; 80];
         let Ok(length) = text::write(&tree, &mut buffer) else {
             continue;
         };
-        same_reading(seed, tree.n, &buffer[..length], &mut random);
+        read.count(same_reading(seed, tree.n, &buffer[..length], &mut random));
         for _ in 0..5 {
             let (n, text) = damage(tree.n, &buffer[..length], &mut random);
-            accepted += usize::from(same_reading(seed, n, &text, &mut random));
-            damaged += 1;
+            damaged.count(same_reading(seed, n, &text, &mut random));
         }
     }
-    println!("same: {written} texts of trees, as many trees of noise, {damaged} damaged texts ({accepted} still a tree's)");
+    written.report(&[0, 3, 12], LEAST, report);
+    read.report(&[0], LEAST, report);
+    damaged.report(&[0, 1, 6, 10], LEAST, report);
 }
 
-/// A tree after random steps, now and then spoiled.
+/// A tree after allowed steps, now and then spoiled.
 pub fn grown(random: &mut Rng) -> Tree {
     let n = 1 + random.below(MAX_NODES);
     let mut tree = Tree::start(n, random.below(n)).expect("a start in range");
-    for _ in 0..random.below(120) {
-        let kind = random.pick(&[1, 1, 1, 2, 2, 2, 2, 3, 4, 5]);
-        let _ = tree.step(Request::new(kind, random.below(n), random.below(n)));
+    for _ in 0..random.below(60) {
+        match tree.allowed(random, false) {
+            Some(request) => tree.step(request).expect("an allowed step"),
+            None => break,
+        }
     }
     if random.chance(10) {
         tree.engager[random.below(MAX_NODES)] = random.below(MAX_NODES + 1);
@@ -57,7 +64,7 @@ fn noise(random: &mut Rng) -> LentTree {
 }
 
 /// The second implementation's answer; a byte that is no truth is an unsound state.
-pub fn same_text(seed: u64, tree: &LentTree, random: &mut Rng) {
+pub fn same_text(seed: u64, tree: &LentTree, random: &mut Rng) -> u8 {
     let room = random.pick(&[0, 3, 10, 40, 69, 80]);
     let mut ours: Vec<u8> = (0..room).map(|_| random.below(256) as u8).collect();
     let noise = random.word() as usize;
@@ -78,10 +85,10 @@ pub fn same_text(seed: u64, tree: &LentTree, random: &mut Rng) {
             &format!("writing told {told} and {length}, expected {expected:?}, of {tree:?}"),
         );
     }
+    told
 }
 
-/// Whether the text is accepted.
-fn same_reading(seed: u64, n: usize, text: &[u8], random: &mut Rng) -> bool {
+fn same_reading(seed: u64, n: usize, text: &[u8], random: &mut Rng) -> u8 {
     let noise: ([u8; MAX_NODES], usize) = (bytes(random), random.word() as usize);
     let (mut engager, mut root) = noise;
     let mut lent = text.to_vec();
@@ -102,7 +109,7 @@ fn same_reading(seed: u64, n: usize, text: &[u8], random: &mut Rng) -> bool {
             ),
         );
     }
-    told == 0
+    told
 }
 
 /// The text with a byte or two changed, dropped, doubled or added, or another number of nodes.

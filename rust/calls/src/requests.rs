@@ -1,0 +1,73 @@
+//! Requests by calls, guided by the state: any kind and node numbers of any size.
+
+use second::generate::{Model, Rng};
+use second::request::{Request, ANNOUNCE};
+
+/// Kinds outside 1 to 6, some of which would be within if they were cut short.
+const NO_KINDS: [usize; 9] = [0, 7, 255, 256, 257, 262, 1 << 32, 1 << 32 | 1, usize::MAX];
+
+/// A run from a start: busy, winding down, and some requests after its announcement.
+pub struct Course {
+    busy: usize,
+    after: usize,
+}
+
+impl Course {
+    pub fn new(random: &mut Rng) -> Self {
+        Self {
+            busy: 10 + random.below(150),
+            after: 1 + random.below(8),
+        }
+    }
+
+    /// The next request; none once the run is over. A busy run is not terminated.
+    pub fn next(&mut self, state: &dyn Model, closed: bool, random: &mut Rng) -> Option<Request> {
+        if closed {
+            self.after = self.after.checked_sub(1)?;
+            return Some(request(state, false, random));
+        }
+        self.busy = self.busy.saturating_sub(1);
+        let busy = self.busy > 0 && state.n() > 1;
+        loop {
+            let request = request(state, !busy, random);
+            if !(busy && state.terminates(request)) {
+                return Some(request);
+            }
+        }
+    }
+}
+
+/// Mostly one that the rules allow, while winding down no send of these; the others are
+/// mostly refused. Numbers that a kind does not use are noise.
+pub fn request(state: &dyn Model, winding_down: bool, random: &mut Rng) -> Request {
+    let announce = Request::new(ANNOUNCE, 0, 0);
+    let request = match random.below(100) {
+        0..=74 => state.allowed(random, winding_down).unwrap_or(announce),
+        75..=78 => Request::new(random.pick(&NO_KINDS), random.below(4), random.below(4)),
+        79..=83 => far(state, random),
+        _ => state.tempting(random),
+    };
+    let used = match request.kind {
+        kind @ 1..=6 => state.words()[kind - 1].1,
+        _ => 2,
+    };
+    Request {
+        i: if used < 1 { word(random) } else { request.i },
+        j: if used < 2 { word(random) } else { request.j },
+        ..request
+    }
+}
+
+fn word(random: &mut Rng) -> usize {
+    random.word() as usize
+}
+
+/// A node number of N or more, which may be below if it were cut short.
+fn far(state: &dyn Model, random: &mut Rng) -> Request {
+    let n = state.n();
+    let request = state.beyond(random);
+    let near = random.below(n);
+    let far = random.pick(&[n, n + 1, 1 << 8 | near, 1 << 32 | near, usize::MAX]);
+    let further = |i: usize| if i < n { i } else { far };
+    Request::new(request.kind, further(request.i), further(request.j))
+}

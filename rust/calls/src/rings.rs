@@ -1,0 +1,296 @@
+//! Rings by calls: starts, the steps of whole runs, wild states, and the driver.
+
+use crate::answers::Answers;
+use crate::lent::LentRing;
+use crate::requests::{request, Course};
+use crate::{fail, proved, LEAST, LEAST_ANNOUNCED, LEAST_BROKEN, STARTS, STEPS};
+use second::generate::Rng;
+use second::refusal::Refusal;
+use second::report::Report;
+use second::request::{Request, SEND_LIMIT};
+use second::ring::{Reason, Ring, MAX_NODES, MOVE_LIMIT};
+
+/// The fields that are broken, one alone or two.
+const FIELDS: [&str; 10] = [
+    "n", "active", "color", "sent", "received", "pending", "pos", "q", "black", "closed",
+];
+
+pub fn compare(seed: u64, report: &mut Report) {
+    let mut random = Rng::new(seed);
+    let mut rings = Rings::new(seed);
+    for _ in 0..STARTS {
+        rings.start(&mut random);
+    }
+    while rings.steps.total() < STEPS {
+        rings.run(&mut random);
+    }
+    rings.report(report);
+}
+
+struct Rings {
+    seed: u64,
+    starts: Answers,
+    steps: Answers,
+    announced: usize,
+    wild_steps: Answers,
+    soundness: Answers,
+    /// Unsound states by the field that was broken alone.
+    broken: [usize; FIELDS.len()],
+    drives: Answers,
+    moved: usize,
+}
+
+impl Rings {
+    fn new(seed: u64) -> Self {
+        Self {
+            seed,
+            starts: Answers::new("ring: starts"),
+            steps: Answers::new("ring: steps of runs"),
+            announced: 0,
+            wild_steps: Answers::new("ring: steps of wild states"),
+            soundness: Answers::new("ring: soundness of wild states"),
+            broken: [0; FIELDS.len()],
+            drives: Answers::new("ring: drives"),
+            moved: 0,
+        }
+    }
+
+    fn start(&mut self, random: &mut Rng) {
+        let (nodes, flags) = flags(random);
+        let told = same_start(self.seed, nodes, &flags, random);
+        self.starts.count(told);
+    }
+
+    /// A run, each step compared; now and then a wild state, and a driver.
+    fn run(&mut self, random: &mut Rng) {
+        let mut ring = match random.below(6) {
+            0 => near_send_limit(random),
+            _ => started(random),
+        };
+        let mut course = Course::new(random);
+        while let Some(request) = course.next(&ring, ring.closed, random) {
+            let told = same_step(self.seed, &LentRing::of(&ring), request);
+            self.steps.count(told);
+            let was_open = !ring.closed;
+            let _ = ring.step(request);
+            self.announced += usize::from(ring.closed && was_open);
+            if random.chance(20) {
+                self.wild(&ring, random);
+            }
+            if random.chance(10) {
+                self.drive(&mut ring, random);
+            }
+        }
+        let noise = LentRing::noise(random);
+        same_calls(self.seed, &noise, request(&ring, false, random), random);
+    }
+
+    /// The ring with one field broken, or two.
+    fn wild(&mut self, ring: &Ring, random: &mut Rng) {
+        let field = random.below(FIELDS.len());
+        let mut wild = broken(ring, field, random);
+        if random.chance(20) {
+            wild = broken(&wild, random.below(FIELDS.len()), random);
+        } else if !wild.is_sound() {
+            self.broken[field] += 1;
+        }
+        let lent = LentRing::of(&wild);
+        self.soundness.count(same_soundness(self.seed, &lent));
+        let request = request(ring, false, random);
+        self.wild_steps.count(same_step(self.seed, &lent, request));
+        self.drives
+            .count(same_drive(self.seed, &lent, limit(random), random));
+    }
+
+    /// A drive, from which the run goes on now and then.
+    fn drive(&mut self, ring: &mut Ring, random: &mut Rng) {
+        let limit = limit(random);
+        let told = same_drive(self.seed, &LentRing::of(ring), limit, random);
+        self.drives.count(told);
+        let mut driven = ring.clone();
+        let moves = driven.drive(limit).map_or(0, |drive| drive.moves);
+        self.moved += usize::from(moves > 0);
+        if random.chance(30) {
+            *ring = driven;
+        }
+    }
+
+    fn report(&self, report: &mut Report) {
+        self.starts.report(&[0, 1, 2], LEAST, report);
+        self.steps.report_half(report);
+        report.at_least("ring: runs announced", self.announced, LEAST_ANNOUNCED);
+        self.steps.report(&[0, 4, 5, 6, 7, 8, 9], LEAST, report);
+        self.wild_steps.report_one(3, LEAST, report);
+        self.soundness.report(&[0, 1], LEAST, report);
+        for (name, &count) in FIELDS.iter().zip(&self.broken) {
+            let name = format!("ring: unsound states with {name} broken alone");
+            report.at_least(name, count, LEAST_BROKEN);
+        }
+        self.drives
+            .report(&[3, 4, 11, 100, 101, 102], LEAST, report);
+        report.at_least(
+            "ring: drives of runs that moved the token",
+            self.moved,
+            LEAST,
+        );
+    }
+}
+
+pub fn started(random: &mut Rng) -> Ring {
+    let n = random.pick(&[1, 2, 3, 5, 8, 17, MAX_NODES]);
+    let flags: Vec<u8> = (0..n).map(|_| random.below(4) as u8).collect();
+    Ring::start(n, &flags).expect("a start in range")
+}
+
+/// A ring in which nearly as many sends were accepted as may be, or as many.
+fn near_send_limit(random: &mut Rng) -> Ring {
+    let mut ring = started(random);
+    let node = |random: &mut Rng| random.below(ring.n);
+    let (sender, receiver, next) = (node(random), node(random), node(random));
+    let pending = random.below(5) as u32;
+    ring.sent[sender] = SEND_LIMIT - random.below(4) as u32;
+    ring.received[receiver] = ring.sent[sender] - pending;
+    ring.pending[next] = pending;
+    assert!(ring.is_sound(), "the token is black");
+    ring
+}
+
+/// Numbers of nodes and flags in range and about it.
+fn flags(random: &mut Rng) -> (usize, Vec<u8>) {
+    let nodes = match random.below(3) {
+        0 => 1 + random.below(MAX_NODES),
+        1 => random.pick(&[1, 2, MAX_NODES - 1, MAX_NODES]),
+        _ => random.pick(&[0, MAX_NODES + 1, 1 << 8 | 1, 1 << 32 | 1, usize::MAX]),
+    };
+    let fitting = nodes.min(MAX_NODES + 1);
+    let length = match random.below(6) {
+        0 => random.below(fitting + 1),
+        1 => fitting + 1 + random.below(200),
+        _ => fitting,
+    };
+    let mut flags: Vec<u8> = (0..length).map(|_| random.below(4) as u8).collect();
+    if length > 0 && random.chance(20) {
+        flags[random.below(length)] = 4 + random.below(252) as u8;
+    }
+    (nodes, flags)
+}
+
+/// Move limits in range mostly, and beyond it.
+fn limit(random: &mut Rng) -> usize {
+    if random.chance(80) {
+        return random.pick(&[0, 1, 2, 5, 20, 286, MOVE_LIMIT - 1, MOVE_LIMIT]);
+    }
+    let cut = (1 << 32) - 1;
+    random.pick(&[MOVE_LIMIT + 1, cut, cut + 1, cut + 6, usize::MAX])
+}
+
+/// The ring with one field set to something else.
+fn broken(ring: &Ring, field: usize, random: &mut Rng) -> Ring {
+    let mut wild = ring.clone();
+    let at = random.below(MAX_NODES);
+    let count = random.pick(&[0, 1, 2, SEND_LIMIT, SEND_LIMIT + 1, u32::MAX]);
+    let most = (MAX_NODES as i64 - 1) * i64::from(SEND_LIMIT);
+    match FIELDS[field] {
+        "n" => wild.n = random.pick(&[0, 1, 2, 95, 96, 97, usize::MAX]),
+        "active" => wild.active[at] = !wild.active[at],
+        "color" => wild.color[at / 8] ^= 1 << (at % 8),
+        "sent" if random.chance(30) => wild.sent[at] = wild.sent[at].wrapping_add(1),
+        "sent" => wild.sent[at] = count,
+        "received" => wild.received[at] = count,
+        "pending" => wild.pending[at] = count,
+        "pos" => wild.token.pos = random.pick(&[0, 1, 95, 96, usize::MAX]),
+        "q" => wild.token.q = random.pick(&[0, 1, -1, most, -most - 1, i64::MAX, i64::MIN]),
+        "black" => wild.token.black = !wild.token.black,
+        _ => wild.closed = !wild.closed,
+    }
+    wild
+}
+
+/// Soundness, a step and a short drive of what is lent.
+pub fn same_calls(seed: u64, ring: &LentRing, request: Request, random: &mut Rng) {
+    same_soundness(seed, ring);
+    same_step(seed, ring, request);
+    same_drive(seed, ring, random.below(12), random);
+}
+
+/// A start into noise, which a refusal leaves.
+fn same_start(seed: u64, nodes: usize, flags: &[u8], random: &mut Rng) -> u8 {
+    let noise = LentRing::noise(random);
+    let (expected, ours) = match Ring::start(nodes, flags) {
+        Ok(ring) => (0, LentRing::of(&ring)),
+        Err(refusal) => (refusal.number() as u8, noise.clone()),
+    };
+    let (mut theirs, mut lent) = (noise, flags.to_vec());
+    let told = proved::ring_start(nodes, &mut lent, &mut theirs);
+    if (told, &theirs, &lent[..]) != (expected, &ours, flags) {
+        fail(
+            seed,
+            &format!("a start of {nodes} with {flags:?} told {told}, expected {expected}"),
+        );
+    }
+    told
+}
+
+/// The second implementation's answer; a byte that is no truth is an unsound state.
+fn same_step(seed: u64, ring: &LentRing, request: Request) -> u8 {
+    let (expected, ours) = match ring.ring() {
+        None => (Refusal::Unsound.number(), ring.clone()),
+        Some(mut next) => {
+            let told = next.step(request).map_or_else(Refusal::number, |()| 0);
+            (told, LentRing::of(&next))
+        }
+    };
+    let mut theirs = ring.clone();
+    let told = proved::step(&mut theirs, request);
+    if (u32::from(told), &theirs) != (expected, &ours) {
+        fail(
+            seed,
+            &format!("{request:?} told {told}, expected {expected}, of {ring:?}"),
+        );
+    }
+    told
+}
+
+fn same_soundness(seed: u64, ring: &LentRing) -> u8 {
+    let expected = ring.ring().is_some_and(|ring| ring.is_sound());
+    let mut theirs = ring.clone();
+    let told = proved::is_sound(&mut theirs);
+    if (told, &theirs) != (u8::from(expected), ring) {
+        fail(seed, &format!("soundness of {ring:?}"));
+    }
+    told
+}
+
+fn same_drive(seed: u64, ring: &LentRing, limit: usize, random: &mut Rng) -> u8 {
+    let noise = random.word() as u32;
+    let refused = |refusal: Refusal| (refusal.number() as u8, noise, ring.clone());
+    let expected = match ring.ring() {
+        None => refused(Refusal::Unsound),
+        Some(mut next) => match next.drive(limit) {
+            Ok(drive) => (
+                reason_number(drive.reason),
+                drive.moves,
+                LentRing::of(&next),
+            ),
+            Err(refusal) => refused(refusal),
+        },
+    };
+    let mut theirs = ring.clone();
+    let mut moves = noise;
+    let told = proved::drive(&mut theirs, limit, &mut moves);
+    if (told, moves, &theirs) != (expected.0, expected.1, &expected.2) {
+        fail(
+            seed,
+            &format!("a drive of {limit} told {told} and {moves} moves, expected {expected:?}, of {ring:?}"),
+        );
+    }
+    told
+}
+
+fn reason_number(reason: Reason) -> u8 {
+    match reason {
+        Reason::Conclusive => 100,
+        Reason::Waiting => 101,
+        Reason::Spent => 102,
+    }
+}

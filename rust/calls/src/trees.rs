@@ -1,0 +1,194 @@
+//! Trees by calls: starts, the steps of whole runs, and wild states.
+
+use crate::answers::Answers;
+use crate::lent::LentTree;
+use crate::requests::{request, Course};
+use crate::{fail, proved, LEAST, LEAST_ANNOUNCED, LEAST_BROKEN, STARTS, STEPS};
+use second::generate::Rng;
+use second::refusal::Refusal;
+use second::report::Report;
+use second::request::{Request, SEND_LIMIT};
+use second::tree::{Tree, MAX_NODES, NONE};
+
+/// The fields that are broken, one alone or two.
+const FIELDS: [&str; 9] = [
+    "n", "root", "active", "engager", "unacked", "transit", "acks", "sends", "closed",
+];
+
+pub fn compare(seed: u64, report: &mut Report) {
+    let mut random = Rng::new(seed);
+    let mut trees = Trees::new(seed);
+    for _ in 0..STARTS {
+        trees.start(&mut random);
+    }
+    while trees.steps.total() < STEPS {
+        trees.run(&mut random);
+    }
+    trees.report(report);
+}
+
+struct Trees {
+    seed: u64,
+    starts: Answers,
+    steps: Answers,
+    announced: usize,
+    wild_steps: Answers,
+    soundness: Answers,
+    /// Unsound states by the field that was broken alone.
+    broken: [usize; FIELDS.len()],
+}
+
+impl Trees {
+    fn new(seed: u64) -> Self {
+        Self {
+            seed,
+            starts: Answers::new("tree: starts"),
+            steps: Answers::new("tree: steps of runs"),
+            announced: 0,
+            wild_steps: Answers::new("tree: steps of wild states"),
+            soundness: Answers::new("tree: soundness of wild states"),
+            broken: [0; FIELDS.len()],
+        }
+    }
+
+    fn start(&mut self, random: &mut Rng) {
+        let nodes = match random.below(3) {
+            0 => random.pick(&[0, MAX_NODES + 1, 1 << 8 | 1, 1 << 32 | 1, usize::MAX]),
+            _ => 1 + random.below(MAX_NODES),
+        };
+        let root = match random.below(3) {
+            0 => random.pick(&[nodes, MAX_NODES, 1 << 8, 1 << 32, usize::MAX]),
+            _ => random.below(nodes.clamp(1, MAX_NODES)),
+        };
+        self.starts
+            .count(same_start(self.seed, nodes, root, random));
+    }
+
+    /// A run, each step compared, and now and then a wild state.
+    fn run(&mut self, random: &mut Rng) {
+        let mut tree = started(random);
+        if random.chance(15) {
+            tree.sends = SEND_LIMIT - random.below(4) as u32;
+        }
+        let mut course = Course::new(random);
+        while let Some(request) = course.next(&tree, tree.closed, random) {
+            let told = same_step(self.seed, &LentTree::of(&tree), request);
+            self.steps.count(told);
+            let was_open = !tree.closed;
+            let _ = tree.step(request);
+            self.announced += usize::from(tree.closed && was_open);
+            if random.chance(20) {
+                self.wild(&tree, random);
+            }
+        }
+        let noise = LentTree::noise(random);
+        same_calls(self.seed, &noise, request(&tree, false, random));
+    }
+
+    /// The tree with one field broken, or two.
+    fn wild(&mut self, tree: &Tree, random: &mut Rng) {
+        let field = random.below(FIELDS.len());
+        let mut wild = broken(tree, field, random);
+        if random.chance(20) {
+            wild = broken(&wild, random.below(FIELDS.len()), random);
+        } else if !wild.is_sound() {
+            self.broken[field] += 1;
+        }
+        let lent = LentTree::of(&wild);
+        self.soundness.count(same_soundness(self.seed, &lent));
+        let request = request(tree, false, random);
+        self.wild_steps.count(same_step(self.seed, &lent, request));
+    }
+
+    fn report(&self, report: &mut Report) {
+        self.starts.report(&[0, 1, 6], LEAST, report);
+        self.steps.report_half(report);
+        report.at_least("tree: runs announced", self.announced, LEAST_ANNOUNCED);
+        self.steps.report(&[0, 4, 5, 6, 7, 8, 9], LEAST, report);
+        self.wild_steps.report_one(3, LEAST, report);
+        self.soundness.report(&[0, 1], LEAST, report);
+        for (name, &count) in FIELDS.iter().zip(&self.broken) {
+            let name = format!("tree: unsound states with {name} broken alone");
+            report.at_least(name, count, LEAST_BROKEN);
+        }
+    }
+}
+
+fn started(random: &mut Rng) -> Tree {
+    let n = random.pick(&[1, 2, 3, 4, 7, 12, MAX_NODES]);
+    Tree::start(n, random.below(n)).expect("a start in range")
+}
+
+/// The tree with one field set to something else.
+fn broken(tree: &Tree, field: usize, random: &mut Rng) -> Tree {
+    let mut wild = tree.clone();
+    let (i, j) = (random.below(MAX_NODES), random.below(MAX_NODES));
+    let count = random.pick(&[0, 1, 2, SEND_LIMIT, SEND_LIMIT + 1, u32::MAX]);
+    match FIELDS[field] {
+        "n" => wild.n = random.pick(&[0, 1, 2, 15, 16, 17, usize::MAX]),
+        "root" => wild.root = random.pick(&[0, 1, 15, 16, usize::MAX]),
+        "active" => wild.active[i] = !wild.active[i],
+        "engager" => wild.engager[i] = random.pick(&[0, 1, i, j, NONE, NONE + 1, 255]),
+        "unacked" if random.chance(30) => wild.unacked[i] = wild.unacked[i].wrapping_add(1),
+        "unacked" => wild.unacked[i] = count,
+        "transit" => wild.in_transit[i][j] = count,
+        "acks" => wild.acks[i] = count,
+        "sends" => wild.sends = count,
+        _ => wild.closed = !wild.closed,
+    }
+    wild
+}
+
+/// Soundness and a step of what is lent.
+pub fn same_calls(seed: u64, tree: &LentTree, request: Request) {
+    same_soundness(seed, tree);
+    same_step(seed, tree, request);
+}
+
+/// A start into noise, which a refusal leaves.
+fn same_start(seed: u64, nodes: usize, root: usize, random: &mut Rng) -> u8 {
+    let noise = LentTree::noise(random);
+    let (expected, ours) = match Tree::start(nodes, root) {
+        Ok(tree) => (0, LentTree::of(&tree)),
+        Err(refusal) => (refusal.number() as u8, noise.clone()),
+    };
+    let mut theirs = noise;
+    let told = proved::tree_start(nodes, root, &mut theirs);
+    if (told, &theirs) != (expected, &ours) {
+        fail(
+            seed,
+            &format!("a start of {nodes} with root {root} told {told}, expected {expected}"),
+        );
+    }
+    told
+}
+
+/// The second implementation's answer; a byte that is no truth is an unsound state.
+fn same_step(seed: u64, tree: &LentTree, request: Request) -> u8 {
+    let (expected, ours) = match tree.tree() {
+        None => (Refusal::Unsound.number(), tree.clone()),
+        Some(mut next) => {
+            let told = next.step(request).map_or_else(Refusal::number, |()| 0);
+            (told, LentTree::of(&next))
+        }
+    };
+    let mut theirs = tree.clone();
+    let told = proved::tree_step(&mut theirs, request);
+    if (u32::from(told), &theirs) != (expected, &ours) {
+        fail(
+            seed,
+            &format!("{request:?} told {told}, expected {expected}, of {tree:?}"),
+        );
+    }
+    told
+}
+
+fn same_soundness(seed: u64, tree: &LentTree) -> u8 {
+    let expected = tree.tree().is_some_and(|tree| tree.is_sound());
+    let mut theirs = tree.clone();
+    let told = proved::tree_is_sound(&mut theirs);
+    if (told, &theirs) != (u8::from(expected), tree) {
+        fail(seed, &format!("soundness of {tree:?}"));
+    }
+    told
+}
