@@ -9,7 +9,7 @@ use mathlib.Core.List.{List, [], _++_, _∷_, map}
 use mathlib.Core.Path.{_∙_, _≡_, ap, refl, sym}
 use native.Mathlib.Numerals.{add-one}
 use native.Mathlib.Omega.{arith}
-use Rattle.laws.proofs.Tests.{both}
+use Rattle.laws.proofs.Tests.{both, both-true}
 use Rattle.flag_bytes.specs.Flags.{areFlags, byteOf, bytesOf, flagOf, flagsOf, isFlag}
 
 map-last : {A B : Type 0} (f : A → B) (l : List A) (x : A) → map f (l ++ (x ∷ [])) ≡ map f l ++ (f x ∷ [])
@@ -41,7 +41,17 @@ pub tested-all : (s : List ℕ) (i : ℕ) (ok : Bool) → length s ≤ i → (ok
 unfolding areFlags
 tested-all s i ok h e = sym (and-true ok) ∙ (rw (drop-of-length-le s h) at e)
 
--- flags are what their truths give back
+-- truths are what their bytes give back, and flags what their truths give back
+pub truth-back : (b : Bool) → (isFlag (byteOf b) ≡ true) × (flagOf (byteOf b) ≡ b)
+truth-back true = (refl, refl)
+truth-back false = (refl, refl)
+
+pub truths-back : (l : List Bool) → (areFlags (bytesOf l) ≡ true) × (flagsOf (bytesOf l) ≡ l)
+unfolding areFlags bytesOf flagsOf
+truths-back [] = (refl, refl)
+truths-back (b ∷ l) =
+    let first = truth-back b in let rest = truths-back l in (both-true (first .0) (rest .0), λ x. first .1 x ∷ rest .1 x)
+
 pub flag-back : (b : ℕ) → isFlag b ≡ true → byteOf (flagOf b) ≡ b
 flag-back zero e = refl
 flag-back (suc zero) e = refl

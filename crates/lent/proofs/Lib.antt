@@ -1,3 +1,4 @@
 pub mod Ring
 pub mod Tree
+pub mod Sound
 pub mod Theorems

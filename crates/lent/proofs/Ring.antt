@@ -27,6 +27,15 @@ use Rattle.ring_rules.specs.declared.Reason.{Reason}
 use Rattle.ring_rules.specs.declared.Reason.the-variants.{Conclusive, Spent, Stopped, Waiting}
 use Rattle.lent.specs.Ring.{DrivenTo, Lent, StartedTo, SteppedTo, driveReason, flagsTest, lent, lentOf, stateOf, stepVerdict}
 
+-- flags are what their truths give back
+pub ring-back : (l : Lent) → flagsTest l ≡ true → lentOf (stateOf l) ≡ l
+unfolding flagsTest
+ring-back l f =
+    let a = both (areFlags (l .active)) (isFlag (l .black) && isFlag (l .closed)) f in
+    let b = both (isFlag (l .black)) (isFlag (l .closed)) (a .1) in
+    λ x. lent (l .n) (flags-back (l .active) (a .0) x) (l .color) (l .sent) (l .received) (l .pending) (l .pos) (l .q)
+    (flag-back (l .black) (b .0) x) (flag-back (l .closed) (b .1) x)
+
 -- ---- a start
 
 pub started :
@@ -132,12 +141,10 @@ drive-refused {l} {limit} {number} {moves} r d v {e} p s f u w t =
 
 -- what the driver does not change is the same, bytes and all
 driven-over : (l : Lent) (s : State) → flagsTest l ≡ true → unmoved (stateOf l) ≡ unmoved s → drivenOver l s ≡ lentOf s
-unfolding flagsTest
 driven-over l s f k =
-    let a = both (areFlags (l .active)) (isFlag (l .black) && isFlag (l .closed)) f in
-    let b = both (isFlag (l .black)) (isFlag (l .closed)) (a .1) in
-    let active : l .active ≡ bytesOf (s .active) = sym (flags-back (l .active) (a .0)) ∙ (λ x. bytesOf (k x .1)) in
-    let closed : l .closed ≡ byteOf (s .closed) = sym (flag-back (l .closed) (b .1)) ∙ (λ x. byteOf (k x .5)) in
+    let e = sym (ring-back l f) in
+    let active : l .active ≡ bytesOf (s .active) = ap (λ (x : Lent). x .active) e ∙ (λ x. bytesOf (k x .1)) in
+    let closed : l .closed ≡ byteOf (s .closed) = ap (λ (x : Lent). x .closed) e ∙ (λ x. byteOf (k x .5)) in
     λ x. lent (k x .0) (active x) (s .color) (k x .2) (k x .3) (k x .4) (s .pos) (s .q) (byteOf (s .black)) (closed x)
 
 pub drive-accepted :

@@ -5,8 +5,10 @@ use mathlib.Core.List.{List}
 use mathlib.Core.Logic.{inl, inr}
 use mathlib.Core.Path.{_∙_, _≡_, ap, refl, sym}
 use native.Mathlib.Omega.{arith}
-use Rattle.flag_bytes.proofs.Laws.{narrow-same}
+use Rattle.flag_bytes.proofs.Laws.{flag-back, flags-back, narrow-same}
+use Rattle.flag_bytes.specs.Flags.{areFlags, isFlag}
 use Rattle.flag_bytes.specs.Narrow.{kindByte}
+use Rattle.laws.proofs.Tests.{both}
 use Rattle.refusal.specs.Table.{codeOf, settle}
 use Rattle.refusal.specs.declared.Refusal.{Refusal}
 use Rattle.refusal.specs.declared.Refusal.the-variants.{Unsound}
@@ -23,6 +25,14 @@ use Rattle.tree_text.specs.declared.Found.{Found}
 use Rattle.tree_text.specs.declared.Written.{Written}
 use Rattle.tree_text.specs.declared.Written.the-variants.{Length, NotWritten}
 use Rattle.lent.specs.Tree.{LentTree, ReadAs, TreeStartedTo, TreeSteppedTo, WrittenAs, lentTree, lentTreeOf, treeFlagsTest, treeOf, treeStepVerdict}
+
+-- flags are what their truths give back
+pub tree-back : (l : LentTree) → treeFlagsTest l ≡ true → lentTreeOf (treeOf l) ≡ l
+unfolding treeFlagsTest
+tree-back l f =
+    let a = both (areFlags (l .active)) (isFlag (l .closed)) f in
+    λ x. lentTree (l .n) (l .root) (flags-back (l .active) (a .0) x) (l .engager) (l .unacked) (l .transit) (l .acks) (l .sends)
+    (flag-back (l .closed) (a .1) x)
 
 -- ---- a start
 

@@ -1,10 +1,13 @@
 -- What the contracts of the exported functions add up to, of every number that they can answer.
-use Prim.Native.Nat.{_<_, ℕ}
+use Prim.Native.Nat.{_<_, _≤_, ℕ}
 use lib.ListN.{getD}
+use mathlib.Core.Bool.{true}
 use mathlib.Core.List.{List}
 use mathlib.Core.Path.{_≡_}
-use Rattle.lent.specs.Ring.{DrivenTo, Lent, StartedTo, SteppedTo, soundNumber}
-use Rattle.lent.specs.Tree.{LentTree, ReadAs, TreeStartedTo, TreeSteppedTo, WrittenAs, treeSoundNumber}
+use Rattle.lent.specs.Ring.{DrivenTo, Lent, StartedTo, SteppedTo, flagsTest, lentOf, soundNumber, stateOf}
+use Rattle.lent.specs.Tree.{LentTree, ReadAs, TreeStartedTo, TreeSteppedTo, WrittenAs, lentTreeOf, treeFlagsTest, treeOf, treeSoundNumber}
+use Rattle.ring_rules.specs.State as ring
+use Rattle.tree_rules.specs.State as tree
 
 -- "A refusal gives its number and the state handed in; no byte of a lent buffer differs": each number but 0, of the driver each below 100,
 -- is a refusal's, and then every lent field is as it was
@@ -48,3 +51,21 @@ pub record BytesJudged : Type 0 where
   pub write :
       {l : LentTree} {buf buf′ : List ℕ} {number length length′ : ℕ} → NoTreeFlag l → WrittenAs l buf number length length′ buf′
       → number ≡ 3
+
+-- the fields that a state is put into hold truths as bytes, and the very state; where each byte that stands for a truth is 0 or 1, the fields are
+-- those of the state that lies there
+pub record FieldsHold : Type 0 where
+  pub ring : (r : ring.State) → (flagsTest (lentOf r) ≡ true) × (stateOf (lentOf r) ≡ r)
+  pub ring-back : (l : Lent) → flagsTest l ≡ true → lentOf (stateOf l) ≡ l
+  pub tree : (t : tree.State) → (treeFlagsTest (lentTreeOf t) ≡ true) × (treeOf (lentTreeOf t) ≡ t)
+  pub tree-back : (l : LentTree) → treeFlagsTest l ≡ true → lentTreeOf (treeOf l) ≡ l
+
+-- "Every start and accepted step gives a sound state": its fields are told as sound; so are those that a driver which was not refused leaves
+pub record SoundLeft : Type 0 where
+  pub start : {nodes : ℕ} {flags : List ℕ} {before after : Lent} → StartedTo nodes flags 0 before after → soundNumber after ≡ 1
+  pub step : {l after : Lent} {kind i j : ℕ} → SteppedTo l kind i j 0 after → soundNumber after ≡ 1
+  pub drive :
+      {l after : Lent} {limit number moves moves′ : ℕ} → DrivenTo l limit number moves moves′ after → 100 ≤ number
+      → soundNumber after ≡ 1
+  pub tree-start : {nodes at : ℕ} {before after : LentTree} → TreeStartedTo nodes at 0 before after → treeSoundNumber after ≡ 1
+  pub tree-step : {l after : LentTree} {kind i j : ℕ} → TreeSteppedTo l kind i j 0 after → treeSoundNumber after ≡ 1
