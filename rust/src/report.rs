@@ -42,6 +42,17 @@ impl Report {
         self.add(name.into(), count, Some(Bound::AtLeast(least)));
     }
 
+    /// Figures of which the same is asked.
+    pub fn each_at_least(
+        &mut self,
+        least: usize,
+        figures: impl IntoIterator<Item = (String, usize)>,
+    ) {
+        for (name, count) in figures {
+            self.at_least(name, count, least);
+        }
+    }
+
     pub fn at_most(&mut self, name: impl Into<String>, count: usize, most: usize) {
         self.add(name.into(), count, Some(Bound::AtMost(most)));
     }

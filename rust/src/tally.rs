@@ -73,9 +73,8 @@ impl<const K: usize> Decided<K> {
     }
 
     fn report(&self, report: &mut Report) {
-        for (name, &count) in self.names.iter().zip(&self.counts) {
-            report.at_least(*name, count, LEAST_DECIDED);
-        }
+        let names = self.names.iter().map(|name| name.to_string());
+        report.each_at_least(LEAST_DECIDED, names.zip(self.counts));
     }
 }
 
@@ -112,28 +111,32 @@ impl Starts {
 
     fn report(&self, report: &mut Report) {
         report.told("first lines accepted", self.accepted);
-        for (name, counts) in [("ring", &self.ring), ("tree", &self.tree)] {
-            report.at_least(
-                format!("first lines refused with 1: a {name}'s number of nodes"),
-                counts[1],
-                LEAST_STARTS,
-            );
-            report.at_least(
-                format!("first lines refused with 6: a node of a {name}"),
-                counts[6],
-                LEAST_STARTS,
-            );
-        }
-        for (name, count) in [
+        let detectors = [("ring", &self.ring), ("tree", &self.tree)];
+        report.each_at_least(
+            LEAST_STARTS,
+            detectors.map(|(name, counts)| {
+                let name = format!("first lines refused with 1: a {name}'s number of nodes");
+                (name, counts[1])
+            }),
+        );
+        report.each_at_least(
+            LEAST_STARTS,
+            detectors.map(|(name, counts)| {
+                let name = format!("first lines refused with 6: a node of a {name}");
+                (name, counts[6])
+            }),
+        );
+        let causes = [
             ("no input", self.no_input),
             ("too long", self.too_long),
             ("no byte 10", self.no_end),
             ("no form", self.no_form),
-        ] {
-            let name = format!("first lines refused with 10: {name}");
-            report.at_least(name, count, LEAST_CAUSES);
-        }
-        let in_all = self.no_input + self.too_long + self.no_end + self.no_form;
+        ];
+        report.each_at_least(
+            LEAST_CAUSES,
+            causes.map(|(name, count)| (format!("first lines refused with 10: {name}"), count)),
+        );
+        let in_all = causes.iter().map(|(_, count)| count).sum();
         report.at_least("first lines refused with 10 in all", in_all, LEAST_STARTS);
     }
 }
@@ -171,15 +174,14 @@ impl Steps {
     }
 
     fn report(&self, report: &mut Report) {
-        let Self { name, .. } = self;
-        for kind in 1..ANNOUNCE {
-            let accepted = self.accepted[kind];
-            report.at_least(
-                format!("{name}: accepted steps of kind {kind}"),
-                accepted,
-                LEAST_ACCEPTED,
-            );
-        }
+        let name = self.name;
+        report.each_at_least(
+            LEAST_ACCEPTED,
+            (1..ANNOUNCE).map(|kind| {
+                let name = format!("{name}: accepted steps of kind {kind}");
+                (name, self.accepted[kind])
+            }),
+        );
         // A log is announced once at most.
         let announced = self.accepted[ANNOUNCE];
         report.at_least(
@@ -187,17 +189,18 @@ impl Steps {
             announced,
             LEAST_ANNOUNCED,
         );
-        for number in OF_STEPS {
-            report.at_least(
-                format!("{name}: steps refused with {number}"),
-                self.refused[number],
-                LEAST_REFUSED,
-            );
-        }
+        report.each_at_least(
+            LEAST_REFUSED,
+            OF_STEPS.map(|number| {
+                let name = format!("{name}: steps refused with {number}");
+                (name, self.refused[number])
+            }),
+        );
         let others = (0..ANSWERS).filter(|number| !OF_STEPS.contains(number));
+        let others = others.map(|number| self.refused[number]).sum();
         report.at_most(
             format!("{name}: steps refused with another number"),
-            others.map(|number| self.refused[number]).sum(),
+            others,
             0,
         );
     }

@@ -1,5 +1,6 @@
 //! How often each number was the answer to a call.
 
+use crate::LEAST;
 use second::report::Report;
 
 /// One more than the greatest answer, the driver's 102.
@@ -30,26 +31,34 @@ impl Answers {
         self.counts.iter().sum()
     }
 
-    /// The number was answered at least so often.
-    pub fn report_one(&self, number: usize, least: usize, report: &mut Report) {
-        let name = format!("{} answered {number}", self.name);
-        report.at_least(name, self.of(number), least);
+    /// Each of `numbers` was answered often enough.
+    pub fn report(&self, numbers: &[usize], report: &mut Report) {
+        let figures = numbers.iter().map(|&number| {
+            let name = format!("{} answered {number}", self.name);
+            (name, self.of(number))
+        });
+        report.each_at_least(LEAST, figures);
     }
 
-    /// Each of `numbers` was answered at least so often, and no other one was.
-    pub fn report(&self, numbers: &[usize], least: usize, report: &mut Report) {
-        for &number in numbers {
-            self.report_one(number, least, report);
-        }
-        let wanted: usize = numbers.iter().map(|&number| self.of(number)).sum();
+    /// No number was answered but these.
+    fn report_others(&self, numbers: &[usize], report: &mut Report) {
+        let these: usize = numbers.iter().map(|&number| self.of(number)).sum();
         let name = format!("{} answered another number", self.name);
-        report.at_most(name, self.total() - wanted, 0);
+        report.at_most(name, self.total() - these, 0);
     }
 
-    /// At least half of the calls were accepted.
-    pub fn report_half(&self, report: &mut Report) {
+    /// Each of `numbers` was answered often enough, and no other one was.
+    pub fn report_all(&self, numbers: &[usize], report: &mut Report) {
+        self.report(numbers, report);
+        self.report_others(numbers, report);
+    }
+
+    /// At least half of the calls were accepted, and each of `refusals` was met.
+    pub fn report_half(&self, refusals: &[usize], report: &mut Report) {
         let (name, total) = (self.name, self.total());
         report.told(name, total);
         report.at_least(format!("{name} accepted"), self.of(0), total.div_ceil(2));
+        self.report(refusals, report);
+        self.report_others(&[&[0], refusals].concat(), report);
     }
 }

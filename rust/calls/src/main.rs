@@ -24,7 +24,7 @@ const STEPS: usize = 600_000;
 /// What is asked of each answer, of announcements, and of each field broken alone.
 const LEAST: usize = 1_000;
 const LEAST_ANNOUNCED: usize = 500;
-const LEAST_BROKEN: usize = 500;
+const LEAST_BROKEN: usize = 200;
 
 fn main() {
     let seed = std::env::args()

@@ -3,7 +3,7 @@
 use crate::answers::Answers;
 use crate::lent::LentTree;
 use crate::requests::{request, Course};
-use crate::{fail, proved, LEAST, LEAST_ANNOUNCED, LEAST_BROKEN, STARTS, STEPS};
+use crate::{fail, proved, LEAST_ANNOUNCED, LEAST_BROKEN, STARTS, STEPS};
 use second::generate::Rng;
 use second::refusal::Refusal;
 use second::report::Report;
@@ -34,6 +34,8 @@ struct Trees {
     announced: usize,
     wild_steps: Answers,
     soundness: Answers,
+    /// Soundness of states with several fields changed that still agree in part.
+    balanced: Answers,
     /// Unsound states by the field that was broken alone.
     broken: [usize; FIELDS.len()],
 }
@@ -47,6 +49,7 @@ impl Trees {
             announced: 0,
             wild_steps: Answers::new("tree: steps of wild states"),
             soundness: Answers::new("tree: soundness of wild states"),
+            balanced: Answers::new("tree: soundness of states in balance"),
             broken: [0; FIELDS.len()],
         }
     }
@@ -96,21 +99,21 @@ impl Trees {
         }
         let lent = LentTree::of(&wild);
         self.soundness.count(same_soundness(self.seed, &lent));
+        let in_balance = LentTree::of(&balanced(tree, random));
+        self.balanced.count(same_soundness(self.seed, &in_balance));
         let request = request(tree, false, random);
         self.wild_steps.count(same_step(self.seed, &lent, request));
     }
 
     fn report(&self, report: &mut Report) {
-        self.starts.report(&[0, 1, 6], LEAST, report);
-        self.steps.report_half(report);
+        self.starts.report_all(&[0, 1, 6], report);
         report.at_least("tree: runs announced", self.announced, LEAST_ANNOUNCED);
-        self.steps.report(&[0, 4, 5, 6, 7, 8, 9], LEAST, report);
-        self.wild_steps.report_one(3, LEAST, report);
-        self.soundness.report(&[0, 1], LEAST, report);
-        for (name, &count) in FIELDS.iter().zip(&self.broken) {
-            let name = format!("tree: unsound states with {name} broken alone");
-            report.at_least(name, count, LEAST_BROKEN);
-        }
+        self.steps.report_half(&[4, 5, 6, 7, 8, 9], report);
+        self.wild_steps.report(&[3], report);
+        self.soundness.report(&[0, 1], report);
+        self.balanced.report(&[0, 1], report);
+        let fields = FIELDS.map(|name| format!("tree: unsound states with {name} broken alone"));
+        report.each_at_least(LEAST_BROKEN, fields.into_iter().zip(self.broken));
     }
 }
 
@@ -125,8 +128,8 @@ fn broken(tree: &Tree, field: usize, random: &mut Rng) -> Tree {
     let (i, j) = (random.below(MAX_NODES), random.below(MAX_NODES));
     let count = random.pick(&[0, 1, 2, SEND_LIMIT, SEND_LIMIT + 1, u32::MAX]);
     match FIELDS[field] {
-        "n" => wild.n = random.pick(&[0, 1, 2, 15, 16, 17, usize::MAX]),
-        "root" => wild.root = random.pick(&[0, 1, 15, 16, usize::MAX]),
+        "n" => wild.n = random.pick(&[0, 1, 2, MAX_NODES, MAX_NODES + 1, usize::MAX]),
+        "root" => wild.root = random.pick(&[0, 1, MAX_NODES - 1, MAX_NODES, usize::MAX]),
         "active" => wild.active[i] = !wild.active[i],
         "engager" => wild.engager[i] = random.pick(&[0, 1, i, j, NONE, NONE + 1, 255]),
         "unacked" if random.chance(30) => wild.unacked[i] = wild.unacked[i].wrapping_add(1),
@@ -136,6 +139,22 @@ fn broken(tree: &Tree, field: usize, random: &mut Rng) -> Tree {
         "sends" => wild.sends = count,
         _ => wild.closed = !wild.closed,
     }
+    wild
+}
+
+/// The tree with one more message, acknowledgement or engaged node of a node, and one more
+/// unacknowledged: few conditions of soundness decide.
+fn balanced(tree: &Tree, random: &mut Rng) -> Tree {
+    let mut wild = tree.clone();
+    let (i, j) = (random.below(MAX_NODES), random.below(MAX_NODES));
+    match random.below(4) {
+        0 => wild.acks[i] += 1,
+        1 => wild.in_transit[i][i] += 1,
+        2 => wild.in_transit[i][j] += 1,
+        _ => wild.engager[j] = i,
+    }
+    wild.unacked[i] += 1;
+    wild.sends = random.pick(&[SEND_LIMIT, SEND_LIMIT, SEND_LIMIT + 1]);
     wild
 }
 

@@ -49,8 +49,20 @@ fn parse(arguments: &[String]) -> Option<(&str, usize, usize, u64)> {
 }
 
 fn compare(program: &str, logs: usize, lines: usize, seed: u64) -> Result<Report, String> {
-    let mut tally = Tally::default();
     let mut report = Report::default();
+    let mut tally = compare_seeds(program, logs, lines, seed)?;
+    tally.report_shares("same: logs by seed", &mut report);
+    for input in past_line_limit() {
+        compare_one(program, seed, &input, &mut tally)
+            .map_err(|failure| format!("FAILED: a log past the limit of lines: {failure}"))?;
+    }
+    tally.report_shares("same: all logs", &mut report);
+    tally.report(&mut report);
+    Ok(report)
+}
+
+fn compare_seeds(program: &str, logs: usize, lines: usize, seed: u64) -> Result<Tally, String> {
+    let mut tally = Tally::default();
     let mut left = lines;
     for k in 0..logs {
         let seed = seed.wrapping_add(k as u64);
@@ -60,14 +72,7 @@ fn compare(program: &str, logs: usize, lines: usize, seed: u64) -> Result<Report
         compare_one(program, seed, &input, &mut tally)
             .map_err(|failure| format!("FAILED: seed {seed}, share {share}: {failure}"))?;
     }
-    tally.report_shares("same: logs by seed", &mut report);
-    for input in past_line_limit() {
-        compare_one(program, seed, &input, &mut tally)
-            .map_err(|failure| format!("FAILED: a log past the limit of lines: {failure}"))?;
-    }
-    tally.report_shares("same: all logs", &mut report);
-    tally.report(&mut report);
-    Ok(report)
+    Ok(tally)
 }
 
 fn compare_one(program: &str, seed: u64, input: &[u8], tally: &mut Tally) -> Result<(), String> {

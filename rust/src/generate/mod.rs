@@ -73,13 +73,13 @@ fn ring_size(rng: &mut Rng) -> usize {
         0 => 1,
         1..=6 => 2 + rng.below(6),
         7 | 8 => 1 + rng.below(ring::MAX_NODES),
-        _ => rng.pick(&[8, 9, 16, 17, 95, 96]),
+        _ => rng.pick(&[8, 9, 16, 17, ring::MAX_NODES - 1, ring::MAX_NODES]),
     }
 }
 
 fn tree_size(rng: &mut Rng) -> usize {
     match rng.below(10) {
-        0 => rng.pick(&[1, 16]),
+        0 => rng.pick(&[1, tree::MAX_NODES]),
         1..=5 => 2 + rng.below(4),
         _ => 1 + rng.below(tree::MAX_NODES),
     }

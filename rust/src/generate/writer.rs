@@ -5,6 +5,7 @@ use super::model::{idle_holder, Model, Words};
 use super::rng::Rng;
 use crate::log::{Log, Run};
 use crate::request::{Request, ANNOUNCE, IDLE};
+use crate::{ring, tree};
 use std::io::Write;
 
 /// What a guided run holds beside the requests that the rules allow: lines in a hundred.
@@ -201,7 +202,12 @@ fn random_request(rng: &mut Rng, n: usize) -> Request {
 fn random_number(rng: &mut Rng, n: usize) -> usize {
     match rng.below(40) {
         0 => n,
-        1 => rng.pick(&[n + 1, 15, 16, 95, 96, 99, 100, 255, 256, 65_535, 99_999]),
+        1 => {
+            let (trees, rings) = (tree::MAX_NODES, ring::MAX_NODES);
+            let about = [n + 1, trees - 1, trees, rings - 1, rings];
+            let beyond = [99, 100, 255, 256, 65_535, 99_999];
+            rng.pick(&[&about[..], &beyond].concat())
+        }
         _ => rng.below(n),
     }
 }
