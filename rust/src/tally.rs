@@ -52,7 +52,7 @@ fn only(truths: &[bool]) -> Option<usize> {
     places.next().filter(|_| places.next().is_none())
 }
 
-/// Counts of what one condition decides alone, by the conditions' names.
+/// Counts of what one condition alone decides, by the conditions' names.
 struct Decided<const K: usize> {
     names: [&'static str; K],
     counts: [usize; K],
@@ -144,14 +144,16 @@ impl Starts {
 /// The answers to one detector's steps.
 struct Steps {
     name: &'static str,
+    kinds: [&'static str; ANNOUNCE - 1],
     accepted: [usize; KINDS],
     refused: [usize; ANSWERS],
 }
 
 impl Steps {
-    fn new(name: &'static str) -> Self {
+    fn new(name: &'static str, kinds: [&'static str; ANNOUNCE - 1]) -> Self {
         Self {
             name,
+            kinds,
             accepted: [0; KINDS],
             refused: [0; ANSWERS],
         }
@@ -178,7 +180,7 @@ impl Steps {
         report.each_at_least(
             LEAST_ACCEPTED,
             (1..ANNOUNCE).map(|kind| {
-                let name = format!("{name}: accepted steps of kind {kind}");
+                let name = format!("{name}: {} accepted", self.kinds[kind - 1]);
                 (name, self.accepted[kind])
             }),
         );
@@ -210,7 +212,10 @@ impl Steps {
 struct RingCases {
     announce: Decided<5>,
     probe: Decided<3>,
-    others: Decided<4>,
+    not_quiet: Decided<1>,
+    no_reason: Decided<1>,
+    blackened: Decided<1>,
+    behind: Decided<1>,
 }
 
 impl RingCases {
@@ -228,12 +233,10 @@ impl RingCases {
                 "ring: probe accepted only since node 0 is black",
                 "ring: probe accepted only since q + counter is above 0",
             ]),
-            others: Decided::new([
-                "ring: announce refused while not quiet, the token at node 0",
-                "ring: probe refused at node 0",
-                "ring: pass by a black node of a white token",
-                "ring: take by a node that the token has passed, under way",
-            ]),
+            not_quiet: Decided::new(["ring: announce refused at node 0 while not quiet"]),
+            no_reason: Decided::new(["ring: probe refused at node 0"]),
+            blackened: Decided::new(["ring: pass by a black node of a white token"]),
+            behind: Decided::new(["ring: take by a node that the token under way has passed"]),
         }
     }
 
@@ -247,18 +250,14 @@ impl RingCases {
                 self.announce
                     .count([!home, token.black, node_black, sum != 0, active]);
                 let quiet = ring.in_transit() == 0 && !ring.active.contains(&true);
-                self.others.count([home && !quiet, false, false, false]);
+                self.not_quiet.count([home && !quiet]);
             }
             PROBE if accepted => self.probe.count([token.black, node_black, sum > 0]),
-            PROBE => self.others.count([false, home, false, false]),
-            PASS if accepted => {
-                let blackens = !token.black && ring.is_black(request.i);
-                self.others.count([false, false, blackens, false]);
-            }
-            TAKE if accepted => {
-                let behind = !home && request.i > token.pos;
-                self.others.count([false, false, false, behind]);
-            }
+            PROBE => self.no_reason.count([home]),
+            PASS if accepted => self
+                .blackened
+                .count([!token.black && ring.is_black(request.i)]),
+            TAKE if accepted => self.behind.count([!home && request.i > token.pos]),
             _ => {}
         }
     }
@@ -266,7 +265,10 @@ impl RingCases {
     fn report(&self, report: &mut Report) {
         self.announce.report(report);
         self.probe.report(report);
-        self.others.report(report);
+        self.not_quiet.report(report);
+        self.no_reason.report(report);
+        self.blackened.report(report);
+        self.behind.report(report);
     }
 }
 
@@ -335,8 +337,8 @@ impl Default for Tally {
             logs: 0,
             unread: 0,
             starts: Starts::default(),
-            ring: Steps::new("ring"),
-            tree: Steps::new("tree"),
+            ring: Steps::new("ring", ["send", "take", "idle", "probe", "pass"]),
+            tree: Steps::new("tree", ["send", "take", "idle", "ack", "leave"]),
             ring_cases: RingCases::new(),
             tree_cases: TreeCases::new(),
         }

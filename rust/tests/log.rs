@@ -2,6 +2,7 @@
 
 use second::generate;
 use second::log::{run, Log, LINE_BYTES, LINE_LIMIT};
+use second::ring::MAX_NODES;
 
 /// The log of lines divided by commas, as the paper prints them, and its answers likewise.
 fn check(input: &str, output: &str) {
@@ -299,7 +300,7 @@ fn the_longest_line() {
 
 #[test]
 fn the_longest_useful_start() {
-    let all: String = (0..96).map(|i| format!(" {i}")).collect();
+    let all: String = (0..MAX_NODES).map(|i| format!(" {i}")).collect();
     let line = format!("(ring 96 (active{all}) (black{all}))");
     assert_eq!(line.len() + 1, 583);
     assert_eq!(

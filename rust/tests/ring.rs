@@ -143,7 +143,7 @@ fn driver_waits_for_an_active_holder() {
 /// An active node 0 after a white round with the sum 0: neither conclusive nor a move.
 #[test]
 fn driver_waits_for_an_active_node_zero() {
-    let (answer, _) = driven(&start(&[ACTIVE, 0]), 1_000);
+    let (answer, _) = driven(&start(&[ACTIVE, 0]), MOVE_LIMIT);
     assert_eq!(answer, drive(Reason::Waiting, 2));
 }
 

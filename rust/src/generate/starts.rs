@@ -46,7 +46,7 @@ fn ring_count(rng: &mut Rng, turn: usize) -> String {
 
 fn tree_count(rng: &mut Rng, turn: usize) -> String {
     let n = count(rng, turn, tree::MAX_NODES);
-    let root = rng.pick(&[0, 1, 15, 16, 17, n, 99_999]);
+    let root = rng.pick(&[0, 1, tree::MAX_NODES - 1, tree::MAX_NODES, n, 99_999]);
     format!("(tree {n} (root {root}))")
 }
 

@@ -24,6 +24,9 @@ pub struct Mix {
     pub eager: usize,
 }
 
+/// Lines in which a run that few requests keep up winds down, mostly.
+const LINES_TO_THE_END: usize = 1_000;
+
 pub struct Writer {
     log: Vec<u8>,
     /// The second implementation, fed with all of `log`.
@@ -155,7 +158,7 @@ impl Writer {
     /// of step once more; the announcement, and requests after it.
     pub fn end(mut self, rng: &mut Rng, lines: usize, mix: Mix) -> Vec<u8> {
         let random = mix.random / 4;
-        let enough = self.lines() + 2 * lines + 1_000;
+        let enough = self.lines() + 2 * lines + LINES_TO_THE_END;
         self.guided(rng, enough, Mix { random, ..mix }, true);
         for kind in 1..=ANNOUNCE {
             let i = self.model().announcer();
