@@ -27,7 +27,10 @@ const LEAST_STARTS: usize = 50;
 const LEAST_CAUSES: usize = 10;
 const LEAST_ANNOUNCED: usize = 200;
 const LEAST_ANNOUNCED_IN_ALL: usize = 500;
-const LEAST_DECIDED: usize = 50;
+/// Of what one condition alone decides: what a log meets once at most, what is seldom, what is not.
+const LEAST_ONCE: usize = 50;
+const LEAST_SELDOM: usize = 100;
+const LEAST_OFTEN: usize = 1_000;
 
 /// The lines of a log, each with its byte 10 if it has one.
 pub fn split(bytes: &[u8]) -> impl Iterator<Item = &[u8]> {
@@ -54,13 +57,15 @@ fn only(truths: &[bool]) -> Option<usize> {
 
 /// Counts of what one condition alone decides, by the conditions' names.
 struct Decided<const K: usize> {
+    least: usize,
     names: [&'static str; K],
     counts: [usize; K],
 }
 
 impl<const K: usize> Decided<K> {
-    fn new(names: [&'static str; K]) -> Self {
+    fn new(least: usize, names: [&'static str; K]) -> Self {
         Self {
+            least,
             names,
             counts: [0; K],
         }
@@ -74,7 +79,7 @@ impl<const K: usize> Decided<K> {
 
     fn report(&self, report: &mut Report) {
         let names = self.names.iter().map(|name| name.to_string());
-        report.each_at_least(LEAST_DECIDED, names.zip(self.counts));
+        report.each_at_least(self.least, names.zip(self.counts));
     }
 }
 
@@ -221,22 +226,34 @@ struct RingCases {
 impl RingCases {
     fn new() -> Self {
         Self {
-            announce: Decided::new([
-                "ring: announce refused only since the token is away",
-                "ring: announce refused only since the token is black",
-                "ring: announce refused only since node 0 is black",
-                "ring: announce refused only since q + counter is not 0",
-                "ring: announce refused only since node 0 is active",
-            ]),
-            probe: Decided::new([
-                "ring: probe accepted only since the token is black",
-                "ring: probe accepted only since node 0 is black",
-                "ring: probe accepted only since q + counter is above 0",
-            ]),
-            not_quiet: Decided::new(["ring: announce refused at node 0 while not quiet"]),
-            no_reason: Decided::new(["ring: probe refused at node 0"]),
-            blackened: Decided::new(["ring: pass by a black node of a white token"]),
-            behind: Decided::new(["ring: take by a node that the token under way has passed"]),
+            announce: Decided::new(
+                LEAST_ONCE,
+                [
+                    "ring: announce refused only since the token is away",
+                    "ring: announce refused only since the token is black",
+                    "ring: announce refused only since node 0 is black",
+                    "ring: announce refused only since q + counter is not 0",
+                    "ring: announce refused only since node 0 is active",
+                ],
+            ),
+            probe: Decided::new(
+                LEAST_SELDOM,
+                [
+                    "ring: probe accepted only since the token is black",
+                    "ring: probe accepted only since node 0 is black",
+                    "ring: probe accepted only since q + counter is above 0",
+                ],
+            ),
+            not_quiet: Decided::new(
+                LEAST_OFTEN,
+                ["ring: announce refused at node 0 while not quiet"],
+            ),
+            no_reason: Decided::new(LEAST_SELDOM, ["ring: probe refused at node 0"]),
+            blackened: Decided::new(LEAST_OFTEN, ["ring: pass by a black node of a white token"]),
+            behind: Decided::new(
+                LEAST_OFTEN,
+                ["ring: take by a node that the token under way has passed"],
+            ),
         }
     }
 
@@ -282,19 +299,28 @@ struct TreeCases {
 impl TreeCases {
     fn new() -> Self {
         Self {
-            announce: Decided::new([
-                "tree: announce refused only since the root is active",
-                "tree: announce refused only since the root is unacknowledged",
-            ]),
-            leave: Decided::new([
-                "tree: leave refused only since the node is the root",
-                "tree: leave refused only since the node is active",
-                "tree: leave refused only since the node is unacknowledged",
-            ]),
-            take: Decided::new([
-                "tree: take that engages its node",
-                "tree: take that is acknowledged at once",
-            ]),
+            announce: Decided::new(
+                LEAST_SELDOM,
+                [
+                    "tree: announce refused only since the root is active",
+                    "tree: announce refused only since the root is unacknowledged",
+                ],
+            ),
+            leave: Decided::new(
+                LEAST_SELDOM,
+                [
+                    "tree: leave refused only since the node is the root",
+                    "tree: leave refused only since the node is active",
+                    "tree: leave refused only since the node is unacknowledged",
+                ],
+            ),
+            take: Decided::new(
+                LEAST_OFTEN,
+                [
+                    "tree: take that engages its node",
+                    "tree: take that is acknowledged at once",
+                ],
+            ),
         }
     }
 
