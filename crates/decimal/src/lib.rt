@@ -4,7 +4,7 @@ ghost use Prim.Native.Nat.{_+_, _≤_, _<_};
 ghost use lib.ListN.{length, getD, drop};
 ghost use Rattle.decimal.specs.Text.{put, decimal, lastDigits};
 ghost use Rattle.decimal.specs.Word.{starts};
-ghost use Rattle.decimal.specs.Number.{digitB, capped, scanOf, numberOf, keptOf, shortOf};
+ghost use Rattle.decimal.specs.Number.{numberCap, digitB, capped, scanOf, numberOf, keptOf, shortOf};
 
 // The byte at `at`, or 0 past the end.
 pub fn byte_at(s: &[u8], at: usize) -> u8
@@ -42,6 +42,12 @@ pub fn has(s: &[u8], at: usize, w: &[u8]) -> bool
     same_from(s, at, w)
 }
 
+// The largest number of five digits: `numberLimit` of specs/Number.
+const NUMBER_LIMIT: usize = 99999;
+
+// What stands for every number above it: `numberCap` of specs/Number.
+const NUMBER_CAP: usize = NUMBER_LIMIT + 1;
+
 // A byte from 0 to 9.
 fn is_digit(b: u8) -> bool
     ensures { λ r. ⌜ r ≡ digitB b ⌝ }
@@ -49,16 +55,16 @@ fn is_digit(b: u8) -> bool
     48 <= b && b <= 57
 }
 
-// The value v with one more digit, held at 100000.
+// The value v with one more digit, held at NUMBER_CAP.
 fn next_value(v: usize, b: u8) -> usize
-    requires { ⌜ (v ≤ 100000) × (48 ≤ b) ⌝ }
-    ensures { λ r. ⌜ (r ≡ capped v b) × (r ≤ 100000) ⌝ }
+    requires { ⌜ (v ≤ numberCap) × (48 ≤ b) ⌝ }
+    ensures { λ r. ⌜ (r ≡ capped v b) × (r ≤ numberCap) ⌝ }
 {
     let w = v * 10 + (b as usize - 48);
-    if w < 100000 { w } else { 100000 }
+    if w < NUMBER_CAP { w } else { NUMBER_CAP }
 }
 
-// A run of digits: its value, 100000 for all above 99999, and the index past it.
+// A run of digits: its value, NUMBER_CAP for all above NUMBER_LIMIT, and the index past it.
 pub struct Scan {
     pub value: usize,
     pub at: usize,
@@ -86,7 +92,7 @@ pub enum Num {
     Wrong,
 }
 
-// A number of any length without leading zero, up to its last digit: 100000 stands for every value above 99999.
+// A number of any length without leading zero, up to its last digit: NUMBER_CAP stands for every value above NUMBER_LIMIT.
 pub fn number(s: &[u8], at: usize) -> Num
     ensures { λ r. ⌜ r ≡ numberOf (now (s .entry)) at ⌝ }
 {
@@ -109,7 +115,7 @@ fn kept(m: Num) -> Num
 {
     match m {
         Num::Value(v, e) => {
-            if 99999 < v {
+            if NUMBER_LIMIT < v {
                 return Num::Wrong;
             }
             Num::Value(v, e)

@@ -3,6 +3,7 @@ use decimal::Num;
 use decimal::has;
 use forms::LINE_BYTES;
 use forms::spaced;
+use refusal::RING_NODES;
 ghost use mathlib.Core.Path.{_≡_};
 ghost use Prim.Native.Nat.{_+_, _≤_, _<_, max};
 ghost use lib.ListN.{length};
@@ -23,14 +24,14 @@ pub struct First {
     pub kind: Kind,
     pub n: usize,
     pub root: usize,
-    pub flags: [u8; 96],
+    pub flags: [u8; RING_NODES],
     pub top: usize,
     pub end: usize,
 }
 
 // The lists as far as they are read: the flags, one more than the largest node, the index of the next byte, and no fault so far.
 pub struct Marks {
-    pub flags: [u8; 96],
+    pub flags: [u8; RING_NODES],
     pub top: usize,
     pub at: usize,
     pub good: bool,
@@ -43,13 +44,13 @@ fn no_first() -> First
         kind: Kind::NotAForm,
         n: 0,
         root: 0,
-        flags: [0; 96],
+        flags: [0; RING_NODES],
         top: 0,
         end: 0,
     }
 }
 
-fn ring_first(n: usize, flags: [u8; 96], top: usize, end: usize) -> First
+fn ring_first(n: usize, flags: [u8; RING_NODES], top: usize, end: usize) -> First
     ensures { λ r. ⌜ r ≡ ringFirst n flags top end ⌝ }
 {
     First {
@@ -69,7 +70,7 @@ fn tree_first(n: usize, root: usize, end: usize) -> First
         kind: Kind::Tree,
         n,
         root,
-        flags: [0; 96],
+        flags: [0; RING_NODES],
         top: 0,
         end,
     }
@@ -79,7 +80,7 @@ fn no_marks() -> Marks
     ensures { λ r. ⌜ r ≡ noMarks ⌝ }
 {
     Marks {
-        flags: [0; 96],
+        flags: [0; RING_NODES],
         top: 0,
         at: 0,
         good: false,
@@ -93,16 +94,16 @@ fn larger(a: usize, b: usize) -> usize
 }
 
 // Node k is named: a node past the first 96 has no flag.
-fn mark(flags: &mut [u8; 96], k: usize, bit: u8)
+fn mark(flags: &mut [u8; RING_NODES], k: usize, bit: u8)
     ensures { λ r. ⌜ now (flags .exit) ≡ flagged bit k (now (flags .entry)) ⌝ }
 {
-    if k < 96 {
+    if k < RING_NODES {
         flags[k] = flags[k] | bit;
     }
 }
 
 // The nodes of a list, ascending, each after one space: each sets `bit` of its flag.
-fn entries(s: &[u8], from: usize, bit: u8, old: [u8; 96], high: usize) -> Marks
+fn entries(s: &[u8], from: usize, bit: u8, old: [u8; RING_NODES], high: usize) -> Marks
     ensures { λ r. ⌜ r ≡ marksOf bit old high (entriesAt (now (s .entry)) from) ⌝ }
 {
     let mut flags = old;
@@ -174,7 +175,7 @@ fn lists(s: &[u8], n: usize, at: usize) -> First
     if !has(s, at, b" (active") {
         return no_first();
     }
-    after_active(s, n, entries(s, at + 8, 1, [0; 96], 0))
+    after_active(s, n, entries(s, at + 8, 1, [0; RING_NODES], 0))
 }
 
 // After a ring's number of nodes.
@@ -184,7 +185,7 @@ fn ring_after(s: &[u8], m: Num) -> First
     match m {
         Num::Value(n, p) => {
             if has(s, p, b")\n") {
-                return ring_first(n, [0; 96], 0, p + 2);
+                return ring_first(n, [0; RING_NODES], 0, p + 2);
             }
             lists(s, n, p)
         }

@@ -6,6 +6,7 @@ use Prim.Native.Nat.{ℕ, _+_, _≤_}
 use lib.ListN.{length, drop}
 use lib.Dec.{eqb}
 use Rattle.decimal.specs.Bytes.{bytes}
+use Rattle.decimal.specs.Number.{numberLimit}
 use Rattle.decimal.specs.Text.{decimal}
 use Rattle.forms.specs.declared.RingStep.{RingStep}
 use Rattle.forms.specs.declared.RingStep.the-variants as ring
@@ -51,7 +52,7 @@ formText announce = bytes "(announce)\n"
 
 -- "numbers are decimal, one to five digits"
 abbrev pub Small : ℕ → Type 0
-Small k = k ≤ 99999
+Small k = k ≤ numberLimit
 
 -- "lists ascend without repeats": each of `low` or more, and more than the one before it
 abbrev pub Ascending : ℕ → List ℕ → Type 0

@@ -3,6 +3,7 @@ use first_line::First;
 use first_line::Kind;
 use first_line::read_first;
 use log_text::put_answer;
+use refusal::RING_NODES;
 use refusal::Refusal;
 use refusal::Verdict;
 use ring::Ring;
@@ -66,7 +67,7 @@ fn open_ring(f: First, out: &mut [u8]) -> Opening
     if n == 0 {
         return refuse(Refusal::NodeCount, out);
     }
-    if 96 < n {
+    if RING_NODES < n {
         return refuse(Refusal::NodeCount, out);
     }
     if n < f.top {

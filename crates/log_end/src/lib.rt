@@ -1,6 +1,7 @@
 // The end lines of the log program, written into a lent buffer.
 use decimal::put_word;
 use log_text::put_item;
+use refusal::RING_NODES;
 use ring::Ring;
 use tree::Tree;
 use tree_writer::put_tree;
@@ -38,7 +39,7 @@ pub fn put_ring_end(out: &mut [u8], at: usize, ring: Ring, moves: u64) -> usize
     requires { ⌜ (at + 256 ≤ length (now out)) × ringSound.Sound (ringView.state ring) ⌝ }
     ensures { λ r. ⌜ Short (now (out .entry)) at (ringEnd (ringView.state ring) moves) r (now (out .exit)) ⌝ }
 {
-    let flight = ring_check::sum_to(&ring.pending, 96);
+    let flight = ring_check::sum_to(&ring.pending, RING_NODES);
     let color = ring.color;
     let black = color::count_black(color);
     put_counts(

@@ -4,6 +4,7 @@ use forms::RingStep;
 use log_lines::line_end;
 use log_rules::LINE_LIMIT;
 use log_text::put_answer;
+use refusal::RING_NODES;
 use refusal::Refusal;
 use refusal::Verdict;
 use ring::Ring;
@@ -98,11 +99,11 @@ fn moved(f: RingStep, v: Verdict) -> u64
 // The step f, carried out and answered as the next line, which ends before index `end`.
 fn step_line(
     r: RingRun,
-    active: &mut [bool; 96],
+    active: &mut [bool; RING_NODES],
     color: &mut [u8; 12],
-    sent: &mut [u32; 96],
-    received: &mut [u32; 96],
-    pending: &mut [u32; 96],
+    sent: &mut [u32; RING_NODES],
+    received: &mut [u32; RING_NODES],
+    pending: &mut [u32; RING_NODES],
     f: RingStep,
     end: usize,
     out: &mut [u8],
@@ -160,11 +161,11 @@ fn formless_line(r: RingRun, end: usize, out: &mut [u8]) -> RingRun
 // The next line, where it is whole; else nothing is done.
 fn turn(
     r: RingRun,
-    active: &mut [bool; 96],
+    active: &mut [bool; RING_NODES],
     color: &mut [u8; 12],
-    sent: &mut [u32; 96],
-    received: &mut [u32; 96],
-    pending: &mut [u32; 96],
+    sent: &mut [u32; RING_NODES],
+    received: &mut [u32; RING_NODES],
+    pending: &mut [u32; RING_NODES],
     piece: &[u8],
     out: &mut [u8],
 ) -> RingRun
@@ -194,11 +195,11 @@ fn turn(
 // The whole lines of a piece from the next on.
 fn run_lines(
     first: RingRun,
-    active: &mut [bool; 96],
+    active: &mut [bool; RING_NODES],
     color: &mut [u8; 12],
-    sent: &mut [u32; 96],
-    received: &mut [u32; 96],
-    pending: &mut [u32; 96],
+    sent: &mut [u32; RING_NODES],
+    received: &mut [u32; RING_NODES],
+    pending: &mut [u32; RING_NODES],
     piece: &[u8],
     out: &mut [u8],
 ) -> RingRun

@@ -38,6 +38,9 @@ pub struct Fed {
     pub count: usize,
 }
 
+// So many lines are answered where the next is the last.
+const LAST_LINE: u64 = LINE_LIMIT - 1;
+
 // The log after its first line.
 fn begun(o: Opening, lines: u64) -> Fed
     requires { ⌜ lines < lineLimit ⌝ }
@@ -174,7 +177,7 @@ pub fn is_decided(log: Log) -> bool
     let stage = log.stage;
     let full = LINE_LIMIT <= log.lines;
     let long = LINE_BYTES <= log.len;
-    let last = full | (long & (999999 <= log.lines));
+    let last = full | (long & (LAST_LINE <= log.lines));
     match stage {
         Stage::Fresh => full | long,
         Stage::Ring => last,

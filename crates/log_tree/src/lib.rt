@@ -5,6 +5,7 @@ use log_lines::line_end;
 use log_rules::LINE_LIMIT;
 use log_text::put_answer;
 use refusal::Refusal;
+use refusal::TREE_NODES;
 use refusal::Verdict;
 use tree::Tree;
 use tree::gathered;
@@ -66,11 +67,11 @@ fn request_of(f: TreeStep) -> Request
 // The step f, carried out and answered as the next line, which ends before index `end`.
 fn step_line(
     r: TreeRun,
-    active: &mut [bool; 16],
-    engager: &mut [u8; 16],
-    unacked: &mut [u32; 16],
+    active: &mut [bool; TREE_NODES],
+    engager: &mut [u8; TREE_NODES],
+    unacked: &mut [u32; TREE_NODES],
     transit: &mut [u32; 256],
-    acks: &mut [u32; 16],
+    acks: &mut [u32; TREE_NODES],
     f: TreeStep,
     end: usize,
     out: &mut [u8],
@@ -125,11 +126,11 @@ fn formless_line(r: TreeRun, end: usize, out: &mut [u8]) -> TreeRun
 // The next line, where it is whole; else nothing is done.
 fn turn(
     r: TreeRun,
-    active: &mut [bool; 16],
-    engager: &mut [u8; 16],
-    unacked: &mut [u32; 16],
+    active: &mut [bool; TREE_NODES],
+    engager: &mut [u8; TREE_NODES],
+    unacked: &mut [u32; TREE_NODES],
     transit: &mut [u32; 256],
-    acks: &mut [u32; 16],
+    acks: &mut [u32; TREE_NODES],
     piece: &[u8],
     out: &mut [u8],
 ) -> TreeRun
@@ -159,11 +160,11 @@ fn turn(
 // The whole lines of a piece from the next on.
 fn run_lines(
     first: TreeRun,
-    active: &mut [bool; 16],
-    engager: &mut [u8; 16],
-    unacked: &mut [u32; 16],
+    active: &mut [bool; TREE_NODES],
+    engager: &mut [u8; TREE_NODES],
+    unacked: &mut [u32; TREE_NODES],
     transit: &mut [u32; 256],
-    acks: &mut [u32; 16],
+    acks: &mut [u32; TREE_NODES],
     piece: &[u8],
     out: &mut [u8],
 ) -> TreeRun

@@ -3,23 +3,24 @@
 // number of its answer before it, 3 of an unsound ring; and what a driver tells.
 use libc::STDOUT_FILENO;
 use refusal::Count;
+use refusal::RING_NODES;
 use ring::Ring;
 use ring::Stepped;
 
 // Two nodes: node 0 is active and sent 999,999 messages, all of them in transit to node 1; the token is black.
 fn busy() -> Ring {
-    let mut active = [false; 96];
+    let mut active = [false; RING_NODES];
     active[0] = true;
-    let mut sent = [0u32; 96];
+    let mut sent = [0u32; RING_NODES];
     sent[0] = 999999;
-    let mut pending = [0u32; 96];
+    let mut pending = [0u32; RING_NODES];
     pending[1] = 999999;
     Ring {
         n: 2,
         active,
         color: [0; 12],
         sent,
-        received: [0; 96],
+        received: [0; RING_NODES],
         pending,
         pos: 0,
         q: 0,

@@ -1,8 +1,10 @@
 // The tree of Dijkstra and Scholten by value: start, soundness check, the six steps. Every state and request has an answer.
 use refusal::Count;
 use refusal::Refusal;
+use refusal::TREE_NODES;
 use refusal::Verdict;
 use tree_check::Rest;
+use tree_rules::NO_ENGAGER;
 ghost use mathlib.Core.Path.{_≡_};
 ghost use Prim.Native.Nat.{_<_};
 ghost use Rattle.tree_rules.specs.Rules.{Send, Take, Idle, Ack, Leave, Announce};
@@ -15,11 +17,11 @@ ghost use Rattle.tree.specs.View.{state, answer};
 pub struct Tree {
     pub n: usize,
     pub root: usize,
-    pub active: [bool; 16],
-    pub engager: [u8; 16],
-    pub unacked: [u32; 16],
+    pub active: [bool; TREE_NODES],
+    pub engager: [u8; TREE_NODES],
+    pub unacked: [u32; TREE_NODES],
     pub transit: [u32; 256],
-    pub acks: [u32; 16],
+    pub acks: [u32; TREE_NODES],
     pub sends: u32,
     pub closed: bool,
 }
@@ -44,11 +46,11 @@ pub fn rest_of(tree: Tree) -> Rest
 
 pub fn gathered(
     r: Rest,
-    active: [bool; 16],
-    engager: [u8; 16],
-    unacked: [u32; 16],
+    active: [bool; TREE_NODES],
+    engager: [u8; TREE_NODES],
+    unacked: [u32; TREE_NODES],
     transit: [u32; 256],
-    acks: [u32; 16],
+    acks: [u32; TREE_NODES],
 ) -> Tree
     ensures { λ t. ⌜ state t ≡ whole r active engager unacked transit acks ⌝ }
 {
@@ -72,11 +74,11 @@ fn no_start(e: Refusal) -> Stepped
     let tree = Tree {
         n: 0,
         root: 0,
-        active: [false; 16],
-        engager: [16; 16],
-        unacked: [0; 16],
+        active: [false; TREE_NODES],
+        engager: [NO_ENGAGER; TREE_NODES],
+        unacked: [0; TREE_NODES],
         transit: [0; 256],
-        acks: [0; 16],
+        acks: [0; TREE_NODES],
         sends: 0,
         closed: false,
     };
@@ -91,18 +93,18 @@ fn first(n: usize, root: usize) -> Tree
     requires { ⌜ root < 16 ⌝ }
     ensures { λ t. ⌜ state t ≡ firstState n root ⌝ }
 {
-    let mut active = [false; 16];
+    let mut active = [false; TREE_NODES];
     active[root] = true;
-    let mut engager = [16; 16];
+    let mut engager = [NO_ENGAGER; TREE_NODES];
     engager[root] = root as u8;
     Tree {
         n,
         root,
         active,
         engager,
-        unacked: [0; 16],
+        unacked: [0; TREE_NODES],
         transit: [0; 256],
-        acks: [0; 16],
+        acks: [0; TREE_NODES],
         sends: 0,
         closed: false,
     }
@@ -116,7 +118,7 @@ impl Tree {
         if n == 0 {
             return no_start(Refusal::NodeCount);
         }
-        if 16 < n {
+        if TREE_NODES < n {
             return no_start(Refusal::NodeCount);
         }
         if n <= root {

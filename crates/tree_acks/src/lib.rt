@@ -1,9 +1,12 @@
 // The steps of acknowledgements over lent columns, of an open state: ack, leave and announce.
 use refusal::Refusal;
+use refusal::TREE_NODES;
 use refusal::Verdict;
 use tree_check::Rest;
 use tree_check::Told;
 use tree_check::refused;
+use tree_rules::NO_ENGAGER;
+use tree_rules::NO_NODE;
 ghost use mathlib.Core.Path.{_≡_};
 ghost use Rattle.tree_rules.specs.Rules.{Ack, Leave, Announce};
 ghost use Rattle.tree_rules.specs.Soundness.{Open};
@@ -14,11 +17,11 @@ ghost use Rattle.tree_check.specs.Told.{answer};
 // Rule 4.
 pub fn ack<'a>(
     r: Rest,
-    active: &'a [bool; 16],
-    engager: &'a [u8; 16],
-    unacked: &mut [u32; 16],
+    active: &'a [bool; TREE_NODES],
+    engager: &'a [u8; TREE_NODES],
+    unacked: &mut [u32; TREE_NODES],
     transit: &'a [u32; 256],
-    acks: &mut [u32; 16],
+    acks: &mut [u32; TREE_NODES],
     i: usize,
 ) -> Told
     requires { ⌜ Open (whole r (now active) (now engager) (now unacked) (now transit) (now acks)) ⌝ }
@@ -42,11 +45,11 @@ pub fn ack<'a>(
 // Rule 5.
 pub fn leave<'a>(
     r: Rest,
-    active: &'a [bool; 16],
-    engager: &mut [u8; 16],
-    unacked: &'a [u32; 16],
+    active: &'a [bool; TREE_NODES],
+    engager: &mut [u8; TREE_NODES],
+    unacked: &'a [u32; TREE_NODES],
     transit: &'a [u32; 256],
-    acks: &mut [u32; 16],
+    acks: &mut [u32; TREE_NODES],
     i: usize,
 ) -> Told
     requires { ⌜ Open (whole r (now active) (now engager) (now unacked) (now transit) (now acks)) ⌝ }
@@ -57,10 +60,10 @@ pub fn leave<'a>(
         return refused(r, Refusal::UnknownNode);
     }
     let e = tree_check::engager_of(engager, i);
-    if !((i != r.root) & ((e != 16) & (!active[i] & (unacked[i] == 0)))) {
+    if !((i != r.root) & ((e != NO_NODE) & (!active[i] & (unacked[i] == 0)))) {
         return refused(r, Refusal::RuleFails);
     }
-    engager[i] = 16;
+    engager[i] = NO_ENGAGER;
     acks[e] += 1;
     Told {
         verdict: Verdict::Accepted,
@@ -71,11 +74,11 @@ pub fn leave<'a>(
 // Rule 6.
 pub fn announce<'a>(
     r: Rest,
-    active: &'a [bool; 16],
-    engager: &'a [u8; 16],
-    unacked: &'a [u32; 16],
+    active: &'a [bool; TREE_NODES],
+    engager: &'a [u8; TREE_NODES],
+    unacked: &'a [u32; TREE_NODES],
     transit: &'a [u32; 256],
-    acks: &'a [u32; 16],
+    acks: &'a [u32; TREE_NODES],
 ) -> Told
     requires { ⌜ Open (whole r (now active) (now engager) (now unacked) (now transit) (now acks)) ⌝ }
     ensures { λ d. ⌜ answer (d .verdict) (whole (d .rest) (now (active .entry)) (now (engager .entry)) (now (unacked .entry)) (now (transit .entry)) (now (acks .entry)))

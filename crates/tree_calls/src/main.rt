@@ -3,16 +3,18 @@
 // transit before and after one is acknowledged, each with the number of its answer before it, 3 of an unsound tree.
 use libc::STDOUT_FILENO;
 use refusal::Count;
+use refusal::TREE_NODES;
 use tree::Stepped;
 use tree::Tree;
+use tree_rules::NO_ENGAGER;
 
 // Two nodes: node 0, the root, is active and sent 999,999 messages, all of them in transit to node 1.
 fn busy() -> Tree {
-    let mut active = [false; 16];
+    let mut active = [false; TREE_NODES];
     active[0] = true;
-    let mut engager = [16u8; 16];
+    let mut engager = [NO_ENGAGER; TREE_NODES];
     engager[0] = 0;
-    let mut unacked = [0u32; 16];
+    let mut unacked = [0u32; TREE_NODES];
     unacked[0] = 999999;
     let mut transit = [0u32; 256];
     transit[1] = 999999;
@@ -23,7 +25,7 @@ fn busy() -> Tree {
         engager,
         unacked,
         transit,
-        acks: [0; 16],
+        acks: [0; TREE_NODES],
         sends: 999999,
         closed: false,
     }

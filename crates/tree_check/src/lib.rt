@@ -1,7 +1,9 @@
 // The soundness check of a tree state over lent columns: what is large is lent, the rest goes by value.
 use refusal::Refusal;
 use refusal::SEND_LIMIT;
+use refusal::TREE_NODES;
 use refusal::Verdict;
+use tree_rules::NO_NODE;
 ghost use mathlib.Core.Path.{_≡_};
 ghost use mathlib.Core.Bool.{cond};
 ghost use Prim.Native.Nat.{_+_, _*_, _≤_, _<_, _^_};
@@ -52,12 +54,12 @@ fn node(x: u8) -> usize
 }
 
 // The sum of a column.
-pub fn sum_of(a: &[u32; 16]) -> u64
+pub fn sum_of(a: &[u32; TREE_NODES]) -> u64
     ensures { λ r. ⌜ (r ≡ sumTo 16 (λ i. getD (now (a .entry)) i 0)) × (r ≤ 16 * 2 ^ 32) ⌝ }
 {
     let mut sum: u64 = 0;
     let mut i = 0;
-    while i < 16 {
+    while i < TREE_NODES {
         sum += wide(a[i]);
         i += 1;
     }
@@ -71,19 +73,23 @@ fn messages_from(transit: &[u32; 256], i: usize) -> u64
 {
     let mut sum: u64 = 0;
     let mut k = 0;
-    while k < 16 {
-        sum += wide(transit[i * 16 + k]);
+    while k < TREE_NODES {
+        sum += wide(transit[i * TREE_NODES + k]);
         k += 1;
     }
     sum
 }
 
 // The engager at a place, 16 where there is none or no place.
-pub fn engager_of(engager: &[u8; 16], i: usize) -> usize
+pub fn engager_of(engager: &[u8; TREE_NODES], i: usize) -> usize
     requires { ⌜ length (now engager) ≡ 16 ⌝ }
     ensures { λ r. ⌜ (r ≡ getD (now (engager .entry)) i 16) × (r < 2 ^ 8) ⌝ }
 {
-    if i < 16 { node(engager[i]) } else { 16 }
+    if i < TREE_NODES {
+        node(engager[i])
+    } else {
+        NO_NODE
+    }
 }
 
 // 1 for true, 0 for false.
@@ -94,13 +100,13 @@ fn one(b: bool) -> u64
 }
 
 // How many nodes have the engager j, the root not counted.
-fn children_of(root: usize, engager: &[u8; 16], j: usize) -> u64
+fn children_of(root: usize, engager: &[u8; TREE_NODES], j: usize) -> u64
     requires { ⌜ length (now engager) ≡ 16 ⌝ }
     ensures { λ r. ⌜ (r ≡ children root (now (engager .entry)) j) × (r ≤ 16) ⌝ }
 {
     let mut sum: u64 = 0;
     let mut i = 0;
-    while i < 16 {
+    while i < TREE_NODES {
         let e = engager_of(engager, i);
         sum += one((i != root) & (e == j));
         i += 1;
@@ -109,13 +115,13 @@ fn children_of(root: usize, engager: &[u8; 16], j: usize) -> u64
 }
 
 // Where 16 links of engagers lead from node i.
-fn chain_end(engager: &[u8; 16], i: usize) -> usize
+fn chain_end(engager: &[u8; TREE_NODES], i: usize) -> usize
     requires { ⌜ length (now engager) ≡ 16 ⌝ }
     ensures { λ r. ⌜ r ≡ climb (now (engager .entry)) 16 i ⌝ }
 {
     let mut at = i;
     let mut k: usize = 0;
-    while k < 16 {
+    while k < TREE_NODES {
         at = engager_of(engager, at);
         k += 1;
     }
@@ -125,11 +131,11 @@ fn chain_end(engager: &[u8; 16], i: usize) -> usize
 // Are the messages from place i only between two nodes?
 fn pairs_ok<'a>(
     r: Rest,
-    active: &'a [bool; 16],
-    engager: &'a [u8; 16],
-    unacked: &'a [u32; 16],
+    active: &'a [bool; TREE_NODES],
+    engager: &'a [u8; TREE_NODES],
+    unacked: &'a [u32; TREE_NODES],
     transit: &'a [u32; 256],
-    acks: &'a [u32; 16],
+    acks: &'a [u32; TREE_NODES],
     i: usize,
 ) -> bool
     requires { ⌜ i < 16 ⌝ }
@@ -138,8 +144,8 @@ fn pairs_ok<'a>(
     let n = r.n;
     let mut ok = true;
     let mut k = 0;
-    while k < 16 {
-        ok = ok & ((transit[i * 16 + k] == 0) | ((i < n) & ((k < n) & (i != k))));
+    while k < TREE_NODES {
+        ok = ok & ((transit[i * TREE_NODES + k] == 0) | ((i < n) & ((k < n) & (i != k))));
         k += 1;
     }
     ok
@@ -148,11 +154,11 @@ fn pairs_ok<'a>(
 // Does place i pass the tests of a place?
 fn place_ok<'a>(
     r: Rest,
-    active: &'a [bool; 16],
-    engager: &'a [u8; 16],
-    unacked: &'a [u32; 16],
+    active: &'a [bool; TREE_NODES],
+    engager: &'a [u8; TREE_NODES],
+    unacked: &'a [u32; TREE_NODES],
     transit: &'a [u32; 256],
-    acks: &'a [u32; 16],
+    acks: &'a [u32; TREE_NODES],
     i: usize,
 ) -> bool
     requires { ⌜ (i < 16) × Shape (whole r (now active) (now engager) (now unacked) (now transit) (now acks)) ⌝ }
@@ -165,27 +171,27 @@ fn place_ok<'a>(
     let under = children_of(root, engager, i);
     let owed = from + wide(acks[i]) + under;
     let balanced = wide(unacked[i]) == owed;
-    let rest = (e != 16) | (!active[i] & (unacked[i] == 0));
+    let rest = (e != NO_NODE) | (!active[i] & (unacked[i] == 0));
     let pairs = pairs_ok(r, active, engager, unacked, transit, acks, i);
-    let nodes = !(e != 16) | ((i < r.n) & (e < r.n));
-    nodes & ((!(e != 16) | (end == root)) & (balanced & (rest & pairs)))
+    let nodes = !(e != NO_NODE) | ((i < r.n) & (e < r.n));
+    nodes & ((!(e != NO_NODE) | (end == root)) & (balanced & (rest & pairs)))
 }
 
 // Do all places pass?
 fn places_ok<'a>(
     r: Rest,
-    active: &'a [bool; 16],
-    engager: &'a [u8; 16],
-    unacked: &'a [u32; 16],
+    active: &'a [bool; TREE_NODES],
+    engager: &'a [u8; TREE_NODES],
+    unacked: &'a [u32; TREE_NODES],
     transit: &'a [u32; 256],
-    acks: &'a [u32; 16],
+    acks: &'a [u32; TREE_NODES],
 ) -> bool
     requires { ⌜ Shape (whole r (now active) (now engager) (now unacked) (now transit) (now acks)) ⌝ }
     ensures { λ b. ⌜ b ≡ allTo 16 (placeTest (whole r (now (active .entry)) (now (engager .entry)) (now (unacked .entry)) (now (transit .entry)) (now (acks .entry)))) ⌝ }
 {
     let mut ok = true;
     let mut i = 0;
-    while i < 16 {
+    while i < TREE_NODES {
         ok = ok & place_ok(r, active, engager, unacked, transit, acks, i);
         i += 1;
     }
@@ -195,11 +201,11 @@ fn places_ok<'a>(
 // The test of announce.
 pub fn is_conclusive<'a>(
     r: Rest,
-    active: &'a [bool; 16],
-    engager: &'a [u8; 16],
-    unacked: &'a [u32; 16],
+    active: &'a [bool; TREE_NODES],
+    engager: &'a [u8; TREE_NODES],
+    unacked: &'a [u32; TREE_NODES],
     transit: &'a [u32; 256],
-    acks: &'a [u32; 16],
+    acks: &'a [u32; TREE_NODES],
 ) -> bool
     requires { ⌜ r .root < 16 ⌝ }
     ensures { λ b. ⌜ b ≡ conclusive (whole r (now (active .entry)) (now (engager .entry)) (now (unacked .entry)) (now (transit .entry)) (now (acks .entry))) ⌝ }
@@ -211,16 +217,16 @@ pub fn is_conclusive<'a>(
 // Is the state sound, however wild its numbers?
 pub fn is_sound<'a>(
     r: Rest,
-    active: &'a [bool; 16],
-    engager: &'a [u8; 16],
-    unacked: &'a [u32; 16],
+    active: &'a [bool; TREE_NODES],
+    engager: &'a [u8; TREE_NODES],
+    unacked: &'a [u32; TREE_NODES],
     transit: &'a [u32; 256],
-    acks: &'a [u32; 16],
+    acks: &'a [u32; TREE_NODES],
 ) -> bool
     requires { ⌜ Shape (whole r (now active) (now engager) (now unacked) (now transit) (now acks)) ⌝ }
     ensures { λ b. ⌜ b ≡ soundTest (whole r (now (active .entry)) (now (engager .entry)) (now (unacked .entry)) (now (transit .entry)) (now (acks .entry))) ⌝ }
 {
-    if 16 < r.n {
+    if TREE_NODES < r.n {
         return false;
     }
     if r.n <= r.root {

@@ -1,10 +1,12 @@
 // The steps of messages over lent columns, of an open state: send, take and idle.
 use refusal::Refusal;
 use refusal::SEND_LIMIT;
+use refusal::TREE_NODES;
 use refusal::Verdict;
 use tree_check::Rest;
 use tree_check::Told;
 use tree_check::refused;
+use tree_rules::NO_NODE;
 ghost use mathlib.Core.Path.{_≡_};
 ghost use Rattle.tree_rules.specs.Rules.{Send, Take, Idle};
 ghost use Rattle.tree_rules.specs.Soundness.{Open};
@@ -15,11 +17,11 @@ ghost use Rattle.tree_check.specs.Told.{answer};
 // Rule 1.
 pub fn send<'a>(
     r: Rest,
-    active: &'a [bool; 16],
-    engager: &'a [u8; 16],
-    unacked: &mut [u32; 16],
+    active: &'a [bool; TREE_NODES],
+    engager: &'a [u8; TREE_NODES],
+    unacked: &mut [u32; TREE_NODES],
     transit: &mut [u32; 256],
-    acks: &'a [u32; 16],
+    acks: &'a [u32; TREE_NODES],
     i: usize,
     j: usize,
 ) -> Told
@@ -43,7 +45,7 @@ pub fn send<'a>(
         return refused(r, Refusal::SendLimit);
     }
     unacked[i] += 1;
-    transit[i * 16 + j] += 1;
+    transit[i * TREE_NODES + j] += 1;
     let mut rest = r;
     rest.sends += 1;
     Told {
@@ -55,11 +57,11 @@ pub fn send<'a>(
 // Rule 2.
 pub fn take<'a>(
     r: Rest,
-    active: &mut [bool; 16],
-    engager: &mut [u8; 16],
-    unacked: &'a [u32; 16],
+    active: &mut [bool; TREE_NODES],
+    engager: &mut [u8; TREE_NODES],
+    unacked: &'a [u32; TREE_NODES],
     transit: &mut [u32; 256],
-    acks: &mut [u32; 16],
+    acks: &mut [u32; TREE_NODES],
     i: usize,
     k: usize,
 ) -> Told
@@ -73,12 +75,12 @@ pub fn take<'a>(
     if r.n <= k {
         return refused(r, Refusal::UnknownNode);
     }
-    if transit[k * 16 + i] == 0 {
+    if transit[k * TREE_NODES + i] == 0 {
         return refused(r, Refusal::RuleFails);
     }
-    transit[k * 16 + i] -= 1;
+    transit[k * TREE_NODES + i] -= 1;
     active[i] = true;
-    if tree_check::engager_of(engager, i) == 16 {
+    if tree_check::engager_of(engager, i) == NO_NODE {
         engager[i] = k as u8;
         return Told {
             verdict: Verdict::Accepted,
@@ -95,11 +97,11 @@ pub fn take<'a>(
 // Rule 3.
 pub fn idle<'a>(
     r: Rest,
-    active: &mut [bool; 16],
-    engager: &'a [u8; 16],
-    unacked: &'a [u32; 16],
+    active: &mut [bool; TREE_NODES],
+    engager: &'a [u8; TREE_NODES],
+    unacked: &'a [u32; TREE_NODES],
     transit: &'a [u32; 256],
-    acks: &'a [u32; 16],
+    acks: &'a [u32; TREE_NODES],
     i: usize,
 ) -> Told
     requires { ⌜ Open (whole r (now active) (now engager) (now unacked) (now transit) (now acks)) ⌝ }

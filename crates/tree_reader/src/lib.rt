@@ -1,7 +1,10 @@
 // The reader of the text of the engagement tree: the first fault from the left decides.
 use decimal::Num;
 use refusal::Refusal;
+use refusal::TREE_NODES;
 use refusal::Verdict;
+use tree_rules::NO_ENGAGER;
+use tree_rules::NO_NODE;
 use tree_text::Found;
 use tree_text::Reading;
 ghost use mathlib.Core.Path.{_≡_};
@@ -43,7 +46,7 @@ fn engager_of(k: usize, by: usize) -> usize
     requires { ⌜ (k < 16) × (by ≤ 16) ⌝ }
     ensures { λ e. ⌜ (e ≡ cond (eqb by 16) k by) × (e < 16) ⌝ }
 {
-    if by == 16 { k } else { by }
+    if by == NO_NODE { k } else { by }
 }
 
 // Node k comes into the tree.
@@ -73,7 +76,7 @@ fn judge(n: usize, r: Reading, by: usize, low: usize, k: usize, at: usize) -> Re
         return refuse(r, Refusal::NotAForm);
     }
     let engager = r.engager;
-    if engager[k] != 16 {
+    if engager[k] != NO_ENGAGER {
         return refuse(r, Refusal::NotAForm);
     }
     place(r, k, by, at)
@@ -157,8 +160,8 @@ fn none(e: Refusal) -> Found
 {
     Found {
         verdict: Verdict::Refused(e),
-        engager: [16; 16],
-        root: 16,
+        engager: [NO_ENGAGER; TREE_NODES],
+        root: NO_NODE,
     }
 }
 
@@ -190,14 +193,14 @@ pub fn read(n: usize, s: &[u8]) -> Found
     if n == 0 {
         return none(Refusal::NodeCount);
     }
-    if 16 < n {
+    if TREE_NODES < n {
         return none(Refusal::NodeCount);
     }
     let r = Reading {
         verdict: Verdict::Accepted,
-        engager: [16; 16],
+        engager: [NO_ENGAGER; TREE_NODES],
         at: 0,
         node: 0,
     };
-    end(s, read_node(s, n, r, 16, 0, 16))
+    end(s, read_node(s, n, r, NO_NODE, 0, TREE_NODES))
 }

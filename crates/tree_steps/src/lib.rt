@@ -1,5 +1,6 @@
 // A step by its kind number over lent columns, of a state that is known to be sound.
 use refusal::Refusal;
+use refusal::TREE_NODES;
 use tree_acks::ack;
 use tree_acks::announce;
 use tree_acks::leave;
@@ -19,11 +20,11 @@ ghost use Rattle.tree_check.specs.Told.{answer};
 // A step by its kind number.
 pub fn step(
     r: Rest,
-    active: &mut [bool; 16],
-    engager: &mut [u8; 16],
-    unacked: &mut [u32; 16],
+    active: &mut [bool; TREE_NODES],
+    engager: &mut [u8; TREE_NODES],
+    unacked: &mut [u32; TREE_NODES],
     transit: &mut [u32; 256],
-    acks: &mut [u32; 16],
+    acks: &mut [u32; TREE_NODES],
     kind: u8,
     i: usize,
     j: usize,

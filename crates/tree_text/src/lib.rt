@@ -1,5 +1,6 @@
 // The text of the engagement tree: definitions in specs/, their theorems in proofs/. This file declares what the writer and the reader answer.
 use refusal::Refusal;
+use refusal::TREE_NODES;
 use refusal::Verdict;
 ghost use mathlib.Core.Path.{_≡_};
 ghost use Rattle.tree_text.specs.Write.{writtenNumber};
@@ -13,7 +14,7 @@ pub enum Written {
 // A reading under way: the engagers so far, the index of the next byte, the node entered or closed last.
 pub struct Reading {
     pub verdict: Verdict,
-    pub engager: [u8; 16],
+    pub engager: [u8; TREE_NODES],
     pub at: usize,
     pub node: usize,
 }
@@ -21,7 +22,7 @@ pub struct Reading {
 // What was read; where it is refused, no engagers and no root, each 16.
 pub struct Found {
     pub verdict: Verdict,
-    pub engager: [u8; 16],
+    pub engager: [u8; TREE_NODES],
     pub root: usize,
 }
 

@@ -1,6 +1,8 @@
 // The writer of the text of the engagement tree.
 use refusal::Refusal;
+use refusal::TREE_NODES;
 use tree::Tree;
+use tree_rules::NO_ENGAGER;
 use tree_text::Written;
 ghost use mathlib.Core.Path.{_≡_};
 ghost use Prim.Native.Nat.{_+_, _≤_, _<_};
@@ -11,7 +13,7 @@ ghost use Rattle.tree_text.specs.Text.{isUnder, nodeText, listText, textOf, sha
 ghost use Rattle.tree_text.specs.Write.{writtenOf, bufferOf};
 
 // Is node c a child of node k?
-fn is_under(e: &[u8; 16], k: usize, c: usize) -> bool
+fn is_under(e: &[u8; TREE_NODES], k: usize, c: usize) -> bool
     requires { ⌜ (length (now e) ≡ 16) × (k < 16) × (c < 16) ⌝ }
     ensures { λ r. ⌜ r ≡ isUnder (now (e .entry)) k c ⌝ }
 {
@@ -20,7 +22,7 @@ fn is_under(e: &[u8; 16], k: usize, c: usize) -> bool
 }
 
 // The text of node k at `at`; where it ends. `left` bounds the depth.
-fn write_node(buf: &mut [u8], at: usize, e: &[u8; 16], k: usize, left: usize) -> usize
+fn write_node(buf: &mut [u8], at: usize, e: &[u8; TREE_NODES], k: usize, left: usize) -> usize
     requires { ⌜ (length (now e) ≡ 16) × (k < 16) × (at + length (nodeText left (now e) k) ≤ length (now buf)) ⌝ }
     ensures { λ r. ⌜ (r ≡ at + length (nodeText left (now (e .entry)) k)) × (now (buf .exit) ≡ put (now (buf .entry)) at (nodeText left (now (e .entry)) k)) ⌝ }
 {
@@ -35,7 +37,14 @@ fn write_node(buf: &mut [u8], at: usize, e: &[u8; 16], k: usize, left: usize) ->
 }
 
 // The children of node k from node `from` on, each after a space.
-fn write_list(buf: &mut [u8], at: usize, e: &[u8; 16], k: usize, from: usize, left: usize) -> usize
+fn write_list(
+    buf: &mut [u8],
+    at: usize,
+    e: &[u8; TREE_NODES],
+    k: usize,
+    from: usize,
+    left: usize,
+) -> usize
     requires { ⌜ (length (now e) ≡ 16) × (k < 16) × (from ≤ 16) × (at + length (listText left (now e) k from) ≤ length (now buf)) ⌝ }
     ensures { λ r. ⌜ (r ≡ at + length (listText left (now (e .entry)) k from)) × (now (buf .exit) ≡ put (now (buf .entry)) at (listText left (now (e .entry)) k from)) ⌝ }
 {
@@ -51,32 +60,32 @@ fn write_list(buf: &mut [u8], at: usize, e: &[u8; 16], k: usize, from: usize, le
 }
 
 // The text of a tree at `at`, where there is room for it; where it ends.
-pub fn put_tree(buf: &mut [u8], at: usize, e: &[u8; 16], root: usize) -> usize
+pub fn put_tree(buf: &mut [u8], at: usize, e: &[u8; TREE_NODES], root: usize) -> usize
     requires { ⌜ (length (now e) ≡ 16) × (root < 16) × (at + length (textOf (now e) root) ≤ length (now buf)) ⌝ }
     ensures { λ r. ⌜ (r ≡ at + length (textOf (now (e .entry)) root)) × (now (buf .exit) ≡ put (now (buf .entry)) at (textOf (now (e .entry)) root)) ⌝ }
 {
-    write_node(buf, at, e, root, 16)
+    write_node(buf, at, e, root, TREE_NODES)
 }
 
 // What node i adds to the length.
-fn share_of(e: &[u8; 16], i: usize) -> usize
+fn share_of(e: &[u8; TREE_NODES], i: usize) -> usize
     requires { ⌜ (length (now e) ≡ 16) × (i < 16) ⌝ }
     ensures { λ r. ⌜ (r ≡ share (now (e .entry)) i) × (r ≤ 5) ⌝ }
 {
-    if e[i] == 16 {
+    if e[i] == NO_ENGAGER {
         return 0;
     }
     3 + decimal::width(i as u64)
 }
 
 // How long the text of a tree is.
-pub fn text_length(e: &[u8; 16]) -> usize
+pub fn text_length(e: &[u8; TREE_NODES]) -> usize
     requires { ⌜ length (now e) ≡ 16 ⌝ }
     ensures { λ r. ⌜ r ≡ lengthOf (now (e .entry)) ⌝ }
 {
     let mut sum: usize = 0;
     let mut i = 0;
-    while i < 16 {
+    while i < TREE_NODES {
         sum += share_of(e, i);
         i += 1;
     }
