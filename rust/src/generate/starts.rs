@@ -71,7 +71,7 @@ fn tree_root(rng: &mut Rng) -> String {
     format!("(tree {n} (root {root}))")
 }
 
-/// No input, no byte 10, too many bytes, or one change of a good line.
+/// No input, no byte 10, too many bytes, a list that does not ascend, or one change of a good line.
 fn no_form(rng: &mut Rng, turn: usize) -> Vec<u8> {
     let good = rng.pick(&[
         "(ring 2)",
@@ -83,7 +83,12 @@ fn no_form(rng: &mut Rng, turn: usize) -> Vec<u8> {
     match turn % 4 {
         0 => Vec::new(),
         1 => good.as_bytes().to_vec(),
-        2 => listed_start(LINE_BYTES + 1 + rng.below(40)),
+        2 => listed_start(LINE_BYTES + rng.pick(&[1, 1, 2, 40])),
+        _ if rng.chance(50) => {
+            let list = rng.pick(&["0 0", "1 0", "0 2 2", "0 3 2 4", "4 4", "9 9", "9 8"]);
+            let word = rng.pick(&["(active {}) (black)", "(active) (black {})"]);
+            format!("(ring 5 {})\n", word.replace("{}", list)).into_bytes()
+        }
         _ => {
             let line = damaged(rng, format!("{good}\n").as_bytes());
             [&line[..], rng.pick(REMAINDERS).as_bytes()].concat()
