@@ -27,3 +27,8 @@ pub record Means (active black : List ℕ) (r : First) : Type 0 where
   pub many : length (r .flags) ≡ 96
   pub flag : (i : ℕ) → i < 96 → getD (r .flags) i 0 ≡ flagByte (named active i) (named black i)
   pub most : (n : ℕ) → (r .top ≤ n) ↔ (Below n active × Below n black)
+
+-- start flags for 96 nodes
+pub record Flags (flags : List ℕ) : Type 0 where
+  pub places : length flags ≡ 96
+  pub small : (i : ℕ) → i < 96 → getD flags i 0 ≤ 3

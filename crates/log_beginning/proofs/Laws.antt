@@ -1,19 +1,16 @@
 -- What a first line begins. Assumes nothing.
 use Prim.Native.Nat.{_<_, _≤_, ℕ}
 use borrow.Author.Tests.{le-leb, le-ltb, lt-leb, lt-ltb}
-use lib.ListN.{getD, getD-replicate, length-replicate, take}
-use lib.Seq.{getD-take, length-take-le}
-use mathlib.Core.Bool.{Bool, false, true}
+use lib.ListN.{take}
 use mathlib.Core.List.{List}
-use mathlib.Core.Path.{_∙_, _≡_, ap, refl, subst, subst⁻¹, sym}
+use mathlib.Core.Path.{_∙_, _≡_, ap, subst, sym}
 use native.Mathlib.Omega.{arith}
-use Rattle.first_line.proofs.Meaning.{lists-mean}
-use Rattle.first_line.proofs.Opens.{first-exact}
-use Rattle.first_line.specs.Meaning.{flagByte, named}
+use Rattle.first_line.specs.Meaning.{Flags}
 use Rattle.first_line.specs.Read.{firstAt}
 use Rattle.first_line.specs.declared.First.{First}
 use Rattle.first_line.specs.declared.Kind.{Kind}
-use Rattle.forms.specs.Read.{Read, other, read}
+use Rattle.forms.specs.Read.{read}
+use Rattle.log_rules.proofs.First.{flags-fit}
 use Rattle.log_text.proofs.Texts.{answer-short}
 use Rattle.log_text.specs.Wrote.{Wrote}
 use Rattle.refusal.specs.declared.Refusal.{Refusal}
@@ -22,47 +19,17 @@ use Rattle.refusal.specs.declared.Verdict.the-variants.{Accepted, Refused}
 use Rattle.ring_rules.proofs.Start.{accepted-start, first-open}
 use Rattle.ring_rules.proofs.Theorems.{start-answered}
 use Rattle.ring_rules.specs.Answers.{Answer}
-use Rattle.log_beginning.specs.Open.{Begins, Flags, stageBy}
+use Rattle.log_beginning.specs.Open.{Begins, stageBy}
 use Rattle.log_beginning.specs.declared.Opening.{Opening}
 use Rattle.log_rules.specs.Answers as rules
 use Rattle.first_line.specs.declared.Kind.the-variants as line
 use Rattle.ring_rules.specs.State as ring
 use Rattle.ring_rules.specs.Start as ringStart
-use Rattle.ring_rules.proofs.Start as ringLaws
 use Rattle.first_line.specs.Start as starts
 use Rattle.tree_rules.specs.Start as treeStart
 use Rattle.tree_rules.specs.Answers as treeAnswers
 use Rattle.tree_rules.specs.Soundness as treeSound
 use Rattle.tree_rules.proofs.Theorems as treeTheorems
-
--- ---- the flags of a first line
-
-pub flag-small : (a b : Bool) → flagByte a b ≤ 3
-flag-small true true = omega arith
-flag-small true false = omega arith
-flag-small false true = omega arith
-flag-small false false = omega arith
-
-zero-flags : Flags starts.zeros
-zero-flags = record {
-  places = length-replicate {A = ℕ} 96 0;
-  small = λ i h. let z : getD starts.zeros i 0 ≡ 0 = getD-replicate 96 i 0 0 h in omega arith;
-}
-
-pub seen-flags : (l : List ℕ) (at : ℕ) → Flags (starts.seenOf (firstAt l at) .flags)
-seen-flags l at = go (firstAt l at) refl
-  where
-    go : (r : Read starts.Start) → firstAt l at ≡ r → Flags (starts.seenOf r .flags)
-    go other p = zero-flags
-    go (read (starts.bare n) e) p = zero-flags
-    go (read (starts.tree n root) e) p = zero-flags
-    go (read (starts.lists n a b) e) p =
-        let v = first-exact l at (starts.lists n a b) e .0 p .0 .1 .0 in
-        let m = lists-mean n a b e (v .1) (v .2) in
-        record {
-          places = m .many;
-          small = λ i h. subst⁻¹ (λ (x : ℕ). x ≤ 3) (m .flag i h) (flag-small (named a i) (named b i));
-        }
 
 -- ---- a ring
 
@@ -83,21 +50,13 @@ module _ (f : First) where
     pub good-ring : f .top ≤ f .n → rules.firstTold line.Ring f ≡ rules.openedBy Accepted first-ring
     good-ring h = rw (lt-ltb 0 (f .n) lo, le-leb (f .n) 96 hi, le-ltb (f .n) (f .top) h)
 
-    pub flags-fit : Flags (f .flags) → ringLaws.Fits (f .n) (take (f .n) (f .flags))
-    flags-fit g = record {
-      some-node = lo;
-      nodes = hi;
-      each = length-take-le (f .n) (f .flags) (omega (arith, g .places));
-      small = λ i h. subst⁻¹ (λ (x : ℕ). x ≤ 3) (getD-take (f .n) (f .flags) i 0 h) (g .small i (omega arith));
-    }
-
     -- the ring that is started
     pub ring-begins : Flags (f .flags) → f .top ≤ f .n → {o : Opening} {out out′ : List ℕ} {a : Answer}
         → a ≡ ringStart.startOf (f .n) (take (f .n) (f .flags))
         → stageBy (o .stage) (o .ring) 0 (o .tree) ≡ rules.onRing (a .state) 0 → Wrote out 0 (rules.answerText 1 Accepted) (o .at) out′
         → Begins (rules.firstTold line.Ring f) o out out′
     ring-begins g h s is w =
-        let fit = flags-fit g in
+        let fit = flags-fit f lo hi g in
         let e = accepted-start (f .n) (take (f .n) (f .flags)) fit in
         let first = ap (λ (a : Answer). a .state) s ∙ start-answered .first (f .n) (take (f .n) (f .flags)) e in
         rw (good-ring h) (record {

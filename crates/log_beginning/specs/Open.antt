@@ -43,8 +43,3 @@ pub record Begins (x : rules.Told) (o : Opening) (out out′ : List ℕ) : Type 
   pub sound : SoundStage (x .stage) 1
   pub begun : Begun (x .stage)
   pub short : length (x .text) ≤ rules.answerBytes
-
--- start flags for 96 nodes
-pub record Flags (flags : List ℕ) : Type 0 where
-  pub places : length flags ≡ 96
-  pub small : (i : ℕ) → i < 96 → getD flags i 0 ≤ 3

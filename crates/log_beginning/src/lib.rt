@@ -12,7 +12,8 @@ ghost use mathlib.Core.Path.{_≡_};
 ghost use Prim.Native.Nat.{_≤_};
 ghost use lib.ListN.{length};
 ghost use Rattle.log_rules.specs.Answers.{answerBytes, fresh, over, openedBy, firstTold, lineTold};
-ghost use Rattle.log_beginning.specs.Open.{Begins, Flags};
+ghost use Rattle.first_line.specs.Meaning.{Flags};
+ghost use Rattle.log_beginning.specs.Open.{Begins};
 
 // What a log has come to: nothing is read yet; a ring's run; a tree's run; or the first line was refused.
 pub enum Stage {

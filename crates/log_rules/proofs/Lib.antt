@@ -1,4 +1,5 @@
 pub mod Examples
+pub mod First
 pub mod Ends
 pub mod Cuts
 pub mod InPlace

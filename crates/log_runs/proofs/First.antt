@@ -19,7 +19,7 @@ use Rattle.first_line.specs.declared.First.{First}
 use Rattle.forms.specs.Form.{Form, Says, formText}
 use Rattle.forms.specs.Read.{Read}
 use Rattle.laws.proofs.Tests.{both, both-true, false-true, split}
-use Rattle.log_beginning.proofs.Laws.{flag-small}
+use Rattle.first_line.proofs.Flags.{flag-small}
 use Rattle.log_rules.proofs.Ends.{form-ended}
 use Rattle.log_rules.proofs.Theorems.{lines-say, says-first, says-itself}
 use Rattle.log_rules.specs.Answers.{Stage, firstTold, fresh, lineTold, onRing, onTree, openedBy}

@@ -18,7 +18,8 @@ use Rattle.forms.specs.declared.RingLine.{RingLine}
 use Rattle.forms.specs.declared.RingStep.{RingStep}
 use Rattle.forms.specs.declared.TreeLine.{TreeLine}
 use Rattle.laws.proofs.Tests.{both}
-use Rattle.log_beginning.proofs.Laws.{flags-fit, seen-flags}
+use Rattle.first_line.proofs.Flags.{seen-flags}
+use Rattle.log_rules.proofs.First.{flags-fit}
 use Rattle.log_rules.proofs.Theorems.{lines-say}
 use Rattle.log_rules.specs.Answers.{Stage, Told, answerText, firstTold, fresh, isMove, lineTold, onRing, onTree, ringRequest, ringTable, ringTold, treeRequest, treeTold}
 use Rattle.log_rules.specs.Output.{linesTold}

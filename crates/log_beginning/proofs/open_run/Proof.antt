@@ -1,8 +1,9 @@
 use borrow.Author.Needs.{needs}
 use mathlib.Core.Path.{subst⁻¹}
 use Rattle.first_line.specs.declared.First.{First}
-use Rattle.log_beginning.proofs.Laws.{run-told, seen-flags}
-use Rattle.log_beginning.specs.Open.{Flags}
+use Rattle.first_line.proofs.Flags.{seen-flags}
+use Rattle.first_line.specs.Meaning.{Flags}
+use Rattle.log_beginning.proofs.Laws.{run-told}
 use Rattle.log_beginning.proofs.open_run.Statement.{statement}
 use Rattle.log_beginning.proofs.open_run.Tie as tie
 
