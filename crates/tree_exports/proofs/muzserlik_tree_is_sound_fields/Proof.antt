@@ -1,4 +1,3 @@
-use borrow.Author.Needs.{needs}
 use mathlib.Core.Bool.{_&&_}
 use mathlib.Core.Path.{_∙_, _≡_, ap}
 use Rattle.flag_bytes.specs.Flags.{byteOf}
