@@ -7,6 +7,6 @@ use mathlib.Core.Bool.{cond}
 abbrev pub kindByte : ℕ → ℕ
 kindByte kind = cond (ltb 255 kind) 0 kind
 
--- a driver's limit: 1,001 stands for all above 1,000
+-- a driver's limit in 32 bits: the greatest number of 32 bits stands for all above it
 abbrev pub limitWord : ℕ → ℕ
-limitWord limit = cond (ltb 1000 limit) 1001 limit
+limitWord limit = cond (ltb 4294967295 limit) 4294967295 limit

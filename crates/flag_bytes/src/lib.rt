@@ -90,12 +90,12 @@ pub fn kind_byte(kind: usize) -> u8
     kind as u8
 }
 
-// A driver's limit: 1,001 for all above 1,000.
+// A driver's limit in 32 bits: the greatest number of 32 bits where it does not fit.
 pub fn limit_word(limit: usize) -> u32
     ensures { λ r. ⌜ r ≡ limitWord limit ⌝ }
 {
-    if 1000 < limit {
-        return 1001;
+    if 4294967295 < limit {
+        return 4294967295;
     }
     limit as u32
 }

@@ -89,19 +89,19 @@ step-accepted {l} {kind} {i} {j} r a s p q f v h =
 
 -- ---- the driver
 
--- all limits above 1,000 are answered alike
+-- all limits above 1,000 are answered alike, and so are all that do not fit 32 bits
 pub limit-same : (r : State) (m limit : ℕ) → m ≡ limitWord limit → driveOf r m ≡ driveOf r limit
 unfolding driveOf
-limit-same r m limit e = ap (driveOf r) e ∙ narrow-same (driveOf r) moveLimit 1001 limit above
+limit-same r m limit e = ap (driveOf r) e ∙ narrow-same (driveOf r) 4294967295 4294967295 limit above
   where
-    stops : (a b : Bool) (k : ℕ) → driveBy (firstOf ((a ⟶ Unsound) ∷ (b ⟶ Closed) ∷ (true ⟶ MoveLimit) ∷ [])) 1001 r
+    stops : (a b : Bool) (k : ℕ) → driveBy (firstOf ((a ⟶ Unsound) ∷ (b ⟶ Closed) ∷ (true ⟶ MoveLimit) ∷ [])) 4294967295 r
         ≡ driveBy (firstOf ((a ⟶ Unsound) ∷ (b ⟶ Closed) ∷ (true ⟶ MoveLimit) ∷ [])) k r
     stops true b k = refl
     stops false true k = refl
     stops false false k = refl
 
-    above : (k : ℕ) → moveLimit < k → driveOf r 1001 ≡ driveOf r k
-    above k h = rw (lt-ltb moveLimit k h) (stops (not (soundTest r)) (r .closed) k)
+    above : (k : ℕ) → 4294967295 < k → driveOf r 4294967295 ≡ driveOf r k
+    above k h = rw (lt-ltb moveLimit k (omega arith)) (stops (not (soundTest r)) (r .closed) k)
 
 -- the fields of l with the colors and the token of r
 abbrev pub drivenOver : Lent → State → Lent
