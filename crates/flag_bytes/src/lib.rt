@@ -1,4 +1,6 @@
 // Truths that are lent as bytes: 1 for true, 0 for false. A byte above 1 is no flag. And numbers that are handed in wide.
+use refusal::RING_NODES;
+use refusal::TREE_NODES;
 ghost use mathlib.Core.Path.{_≡_};
 ghost use lib.ListN.{length};
 ghost use Rattle.flag_bytes.specs.Flags.{areFlags, flagsOf, byteOf, bytesOf};
@@ -48,34 +50,34 @@ fn put_bytes(s: &[bool], out: &mut [u8])
     }
 }
 
-pub fn ring_flags(s: [u8; 96]) -> [bool; 96]
+pub fn ring_flags(s: [u8; RING_NODES]) -> [bool; RING_NODES]
     ensures { λ r. ⌜ r ≡ flagsOf s ⌝ }
 {
-    let mut out = [false; 96];
+    let mut out = [false; RING_NODES];
     put_flags(&s, &mut out);
     out
 }
 
-pub fn ring_bytes(s: [bool; 96]) -> [u8; 96]
+pub fn ring_bytes(s: [bool; RING_NODES]) -> [u8; RING_NODES]
     ensures { λ r. ⌜ r ≡ bytesOf s ⌝ }
 {
-    let mut out = [0u8; 96];
+    let mut out = [0u8; RING_NODES];
     put_bytes(&s, &mut out);
     out
 }
 
-pub fn tree_flags(s: [u8; 16]) -> [bool; 16]
+pub fn tree_flags(s: [u8; TREE_NODES]) -> [bool; TREE_NODES]
     ensures { λ r. ⌜ r ≡ flagsOf s ⌝ }
 {
-    let mut out = [false; 16];
+    let mut out = [false; TREE_NODES];
     put_flags(&s, &mut out);
     out
 }
 
-pub fn tree_bytes(s: [bool; 16]) -> [u8; 16]
+pub fn tree_bytes(s: [bool; TREE_NODES]) -> [u8; TREE_NODES]
     ensures { λ r. ⌜ r ≡ bytesOf s ⌝ }
 {
-    let mut out = [0u8; 16];
+    let mut out = [0u8; TREE_NODES];
     put_bytes(&s, &mut out);
     out
 }

@@ -1,5 +1,6 @@
 // What other languages call of the ring: its fields are lent one by one. Bytes and numbers alone cross, and a byte above 1 where a truth
 // belongs is judged as an unsound state.
+use refusal::RING_NODES;
 use refusal::Refusal;
 use refusal::Verdict;
 use ring::Ring;
@@ -12,7 +13,7 @@ ghost use Rattle.ring.specs.View.{state};
 ghost use Rattle.ring_rules.specs.Driver.{reasonVerdict};
 
 // Are the bytes of a lent ring's truths each 0 or 1?
-fn are_flags(active: [u8; 96], black: u8, closed: u8) -> bool
+fn are_flags(active: [u8; RING_NODES], black: u8, closed: u8) -> bool
     ensures { λ r. ⌜ r ≡ (areFlags active && (isFlag black && isFlag closed)) ⌝ }
 {
     let column = flag_bytes::are_flags(&active);
@@ -22,11 +23,11 @@ fn are_flags(active: [u8; 96], black: u8, closed: u8) -> bool
 // The ring that lies in lent fields.
 fn gathered(
     n: usize,
-    active: [u8; 96],
+    active: [u8; RING_NODES],
     color: [u8; 12],
-    sent: [u32; 96],
-    received: [u32; 96],
-    pending: [u32; 96],
+    sent: [u32; RING_NODES],
+    received: [u32; RING_NODES],
+    pending: [u32; RING_NODES],
     pos: usize,
     q: i64,
     black: u8,
@@ -52,11 +53,11 @@ fn gathered(
 // The ring put into the lent fields, all but the number of nodes.
 fn scatter(
     ring: Ring,
-    active: &mut [u8; 96],
+    active: &mut [u8; RING_NODES],
     color: &mut [u8; 12],
-    sent: &mut [u32; 96],
-    received: &mut [u32; 96],
-    pending: &mut [u32; 96],
+    sent: &mut [u32; RING_NODES],
+    received: &mut [u32; RING_NODES],
+    pending: &mut [u32; RING_NODES],
     pos: &mut usize,
     q: &mut i64,
     black: &mut u8,
@@ -87,11 +88,11 @@ pub extern "C" fn muzserlik_ring_start_fields(
     nodes: usize,
     flags: &[u8],
     n: &mut usize,
-    active: &mut [u8; 96],
+    active: &mut [u8; RING_NODES],
     color: &mut [u8; 12],
-    sent: &mut [u32; 96],
-    received: &mut [u32; 96],
-    pending: &mut [u32; 96],
+    sent: &mut [u32; RING_NODES],
+    received: &mut [u32; RING_NODES],
+    pending: &mut [u32; RING_NODES],
     pos: &mut usize,
     q: &mut i64,
     black: &mut u8,
@@ -127,11 +128,11 @@ pub extern "C" fn muzserlik_ring_start_fields(
 #[no_mangle]
 pub extern "C" fn muzserlik_ring_step_fields(
     n: usize,
-    active: &mut [u8; 96],
+    active: &mut [u8; RING_NODES],
     color: &mut [u8; 12],
-    sent: &mut [u32; 96],
-    received: &mut [u32; 96],
-    pending: &mut [u32; 96],
+    sent: &mut [u32; RING_NODES],
+    received: &mut [u32; RING_NODES],
+    pending: &mut [u32; RING_NODES],
     pos: &mut usize,
     q: &mut i64,
     black: &mut u8,
@@ -183,11 +184,11 @@ pub extern "C" fn muzserlik_ring_step_fields(
 #[no_mangle]
 pub extern "C" fn muzserlik_ring_is_sound_fields(
     n: usize,
-    active: &[u8; 96],
+    active: &[u8; RING_NODES],
     color: &[u8; 12],
-    sent: &[u32; 96],
-    received: &[u32; 96],
-    pending: &[u32; 96],
+    sent: &[u32; RING_NODES],
+    received: &[u32; RING_NODES],
+    pending: &[u32; RING_NODES],
     pos: usize,
     q: i64,
     black: u8,
@@ -226,11 +227,11 @@ fn reason_verdict(e: Reason) -> Verdict
 #[no_mangle]
 pub extern "C" fn muzserlik_ring_drive_fields(
     n: usize,
-    active: &[u8; 96],
+    active: &[u8; RING_NODES],
     color: &mut [u8; 12],
-    sent: &[u32; 96],
-    received: &[u32; 96],
-    pending: &[u32; 96],
+    sent: &[u32; RING_NODES],
+    received: &[u32; RING_NODES],
+    pending: &[u32; RING_NODES],
     pos: &mut usize,
     q: &mut i64,
     black: &mut u8,

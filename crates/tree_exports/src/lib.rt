@@ -1,6 +1,7 @@
 // What other languages call of the tree: its fields are lent one by one, its text in a buffer. Bytes and numbers alone cross, and a byte
 // above 1 where a truth belongs is judged as an unsound state.
 use refusal::Refusal;
+use refusal::TREE_NODES;
 use refusal::Verdict;
 use tree::Tree;
 use tree_text::Written;
@@ -11,7 +12,7 @@ ghost use Rattle.lent.specs.Tree.{lentTree, lentTreeOf, treeOf, treeSoundNumber
 ghost use Rattle.tree.specs.View.{state};
 
 // Are the bytes of a lent tree's truths each 0 or 1?
-fn are_flags(active: [u8; 16], closed: u8) -> bool
+fn are_flags(active: [u8; TREE_NODES], closed: u8) -> bool
     ensures { λ r. ⌜ r ≡ (areFlags active && isFlag closed) ⌝ }
 {
     let column = flag_bytes::are_flags(&active);
@@ -22,11 +23,11 @@ fn are_flags(active: [u8; 16], closed: u8) -> bool
 fn gathered(
     n: usize,
     root: usize,
-    active: [u8; 16],
-    engager: [u8; 16],
-    unacked: [u32; 16],
+    active: [u8; TREE_NODES],
+    engager: [u8; TREE_NODES],
+    unacked: [u32; TREE_NODES],
     transit: [u32; 256],
-    acks: [u32; 16],
+    acks: [u32; TREE_NODES],
     sends: u32,
     closed: u8,
 ) -> Tree
@@ -49,11 +50,11 @@ fn gathered(
 // The tree put into the lent fields, all but the number of nodes and the root.
 fn scatter(
     tree: Tree,
-    active: &mut [u8; 16],
-    engager: &mut [u8; 16],
-    unacked: &mut [u32; 16],
+    active: &mut [u8; TREE_NODES],
+    engager: &mut [u8; TREE_NODES],
+    unacked: &mut [u32; TREE_NODES],
     transit: &mut [u32; 256],
-    acks: &mut [u32; 16],
+    acks: &mut [u32; TREE_NODES],
     sends: &mut u32,
     closed: &mut u8,
 )
@@ -81,11 +82,11 @@ pub extern "C" fn muzserlik_tree_start_fields(
     at: usize,
     n: &mut usize,
     root: &mut usize,
-    active: &mut [u8; 16],
-    engager: &mut [u8; 16],
-    unacked: &mut [u32; 16],
+    active: &mut [u8; TREE_NODES],
+    engager: &mut [u8; TREE_NODES],
+    unacked: &mut [u32; TREE_NODES],
     transit: &mut [u32; 256],
-    acks: &mut [u32; 16],
+    acks: &mut [u32; TREE_NODES],
     sends: &mut u32,
     closed: &mut u8,
 ) -> u8
@@ -110,11 +111,11 @@ pub extern "C" fn muzserlik_tree_start_fields(
 pub extern "C" fn muzserlik_tree_step_fields(
     n: usize,
     root: usize,
-    active: &mut [u8; 16],
-    engager: &mut [u8; 16],
-    unacked: &mut [u32; 16],
+    active: &mut [u8; TREE_NODES],
+    engager: &mut [u8; TREE_NODES],
+    unacked: &mut [u32; TREE_NODES],
     transit: &mut [u32; 256],
-    acks: &mut [u32; 16],
+    acks: &mut [u32; TREE_NODES],
     sends: &mut u32,
     closed: &mut u8,
     kind: usize,
@@ -153,11 +154,11 @@ pub extern "C" fn muzserlik_tree_step_fields(
 pub extern "C" fn muzserlik_tree_is_sound_fields(
     n: usize,
     root: usize,
-    active: &[u8; 16],
-    engager: &[u8; 16],
-    unacked: &[u32; 16],
+    active: &[u8; TREE_NODES],
+    engager: &[u8; TREE_NODES],
+    unacked: &[u32; TREE_NODES],
     transit: &[u32; 256],
-    acks: &[u32; 16],
+    acks: &[u32; TREE_NODES],
     sends: u32,
     closed: u8,
 ) -> u8
@@ -183,11 +184,11 @@ pub extern "C" fn muzserlik_tree_is_sound_fields(
 pub extern "C" fn muzserlik_tree_write_fields(
     n: usize,
     root: usize,
-    active: &[u8; 16],
-    engager: &[u8; 16],
-    unacked: &[u32; 16],
+    active: &[u8; TREE_NODES],
+    engager: &[u8; TREE_NODES],
+    unacked: &[u32; TREE_NODES],
     transit: &[u32; 256],
-    acks: &[u32; 16],
+    acks: &[u32; TREE_NODES],
     sends: u32,
     closed: u8,
     buf: &mut [u8],
@@ -223,7 +224,7 @@ pub extern "C" fn muzserlik_tree_write_fields(
 pub extern "C" fn muzserlik_tree_read_fields(
     n: usize,
     s: &[u8],
-    engager: &mut [u8; 16],
+    engager: &mut [u8; TREE_NODES],
     root: &mut usize,
 ) -> u8
     ensures { λ r. ⌜ ReadAs n (now (s .entry)) r (now (engager .entry)) (now (root .entry)) (now (engager .exit)) (now (root .exit)) ⌝ }
