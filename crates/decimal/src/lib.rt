@@ -1,6 +1,6 @@
 // Decimal numbers and fixed words in text: read at a place of a slice, written at a place of a buffer.
 ghost use mathlib.Core.Path.{_≡_};
-ghost use Prim.Native.Nat.{_+_, _≤_, _<_};
+ghost use Prim.Native.Nat.{_+_, _≤_};
 ghost use lib.ListN.{length, getD, drop};
 ghost use Rattle.decimal.specs.Text.{put, decimal, lastDigits};
 ghost use Rattle.decimal.specs.Word.{starts};

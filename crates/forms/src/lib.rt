@@ -4,8 +4,6 @@ use decimal::byte_at;
 use decimal::has;
 use decimal::short_number;
 ghost use mathlib.Core.Path.{_≡_};
-ghost use Prim.Native.Nat.{_+_, _≤_, _<_};
-ghost use lib.ListN.{length};
 ghost use Rattle.forms.specs.Read.{one, two, spacedOf, closedOf, secondOf, argsOf};
 
 // The most bytes of a line, byte 10 with them: `lineBytes` of specs/Form.

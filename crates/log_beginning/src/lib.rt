@@ -8,7 +8,6 @@ use refusal::Refusal;
 use refusal::Verdict;
 use ring::Ring;
 use tree::Tree;
-ghost use mathlib.Core.Path.{_≡_};
 ghost use Prim.Native.Nat.{_≤_};
 ghost use lib.ListN.{length};
 ghost use Rattle.log_rules.specs.Answers.{answerBytes, fresh, over, openedBy, firstTold, lineTold};

@@ -2,8 +2,8 @@
 use forms::LINE_BYTES;
 ghost use mathlib.Core.Path.{_≡_};
 ghost use mathlib.Core.List.{_++_, _∷_, []};
-ghost use Prim.Native.Nat.{_+_, _-_, _≤_, _<_, min};
-ghost use lib.ListN.{length, take, drop};
+ghost use Prim.Native.Nat.{_+_, _-_, _≤_, min};
+ghost use lib.ListN.{length, take};
 ghost use Rattle.forms.specs.Form.{lineBytes};
 ghost use Rattle.log_rules.specs.Pieces.{longBytes};
 ghost use Rattle.log_lines.specs.Lines.{endAt, part};

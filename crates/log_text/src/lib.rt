@@ -3,10 +3,8 @@ use decimal::put_decimal;
 use decimal::put_word;
 use refusal::Refusal;
 use refusal::Verdict;
-ghost use mathlib.Core.Path.{_≡_};
 ghost use Prim.Native.Nat.{_+_, _≤_};
 ghost use lib.ListN.{length};
-ghost use Rattle.decimal.specs.Text.{put};
 ghost use Rattle.log_rules.specs.Answers.{answerText};
 ghost use Rattle.log_text.specs.Wrote.{Wrote, item};
 

@@ -1,9 +1,8 @@
 -- Document 01's table, "any state handed in, 3, not sound": the answer where a number is asked of a state.
 use Prim.Native.Nat.{ℕ}
-use mathlib.Core.Bool.{Bool, false, not, true}
+use mathlib.Core.Bool.{Bool, not}
 use mathlib.Core.List.{List, [], _∷_}
-use mathlib.Core.Path.{_≡_}
-use Rattle.refusal.specs.Table.{Row, _⟶_, codeOf, firstOf, settle}
+use Rattle.refusal.specs.Table.{Row, _⟶_, firstOf, settle}
 use Rattle.refusal.specs.declared.Count.{Count}
 use Rattle.refusal.specs.declared.Refusal.the-variants.{Unsound}
 

@@ -6,7 +6,7 @@ use refusal::Verdict;
 use tree_rules::NO_NODE;
 ghost use mathlib.Core.Path.{_≡_};
 ghost use mathlib.Core.Bool.{cond};
-ghost use Prim.Native.Nat.{_+_, _*_, _≤_, _<_, _^_};
+ghost use Prim.Native.Nat.{_*_, _≤_, _<_, _^_};
 ghost use lib.ListN.{length, getD};
 ghost use Rattle.laws.specs.Places.{allTo};
 ghost use Rattle.laws.specs.Sums.{sumTo};

@@ -26,7 +26,7 @@ use Rattle.tree_faults.proofs.Places.{Complete, FaultAt, FaultTo, Large
 use Rattle.tree_faults.proofs.Reader.{root-fault, same-refusal}
 use Rattle.tree_faults.proofs.Searches.{greatest, written-from, written-or-not}
 use Rattle.tree_faults.specs.Theorems.{BeginsText, BeginsWritten, Fault, FirstFault, Near, NumberTo, OpenedTo, WholeText}
-use Rattle.tree_faults.specs.Trees.{node, nodesText, none, treeText}
+use Rattle.tree_faults.specs.Trees.{nodesText, none, treeText}
 use Rattle.tree_text.proofs.Given.{node-read}
 use Rattle.tree_text.proofs.Lists.{Lists, alone, alone-places, bare, blank, none as no-more}
 use Rattle.tree_text.proofs.Printed.{node-next}

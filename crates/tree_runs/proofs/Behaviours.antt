@@ -26,7 +26,7 @@ use Rattle.tree_runs.proofs.Trace.{closed-step}
 use Rattle.tree_runs.proofs.Traced.{may, sound-after, traced}
 use Rattle.tree_runs.specs.Agreement.{Reachable, RunTo, SendAllowed, ToAnother, initial, later, rootOf, sendsOf}
 use Rattle.tree_runs.specs.Counts.{isAnnounce, kind, tree}
-use Rattle.tree_runs.specs.DijkstraScholten.{Addr, Initial, Step, Systems, deactivate, disengage, receive-ACK, receive-DAT, send-DAT, start}
+use Rattle.tree_runs.specs.DijkstraScholten.{Addr, Initial, Step, Systems, deactivate, disengage, receive-ACK, receive-DAT, send-DAT}
 use Rattle.tree_runs.specs.View.{Action, is-ack, is-announce, is-idle, is-leave, is-send, is-take, systemsOf}
 
 -- two addresses of one number

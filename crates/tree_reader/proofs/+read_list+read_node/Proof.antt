@@ -7,8 +7,6 @@ use Prim.Native.Nat.{ℕ, _+_, _*_, _<_}
 use Rattle.decimal.proofs.Cases.{in-text}
 use Rattle.tree_text.specs.Read.{entered, listOf}
 use Rattle.tree_text.proofs.Steps.{list-none, list-zero, node-no}
-use Rattle.tree_text.proofs.Taken.{taken}
-use Prim.Native.Nat.{ℕ, _<_}
 use borrow.Fn.Kinds.{In}
 use borrow.Fn.PlainCycle.{Measures, is, falls, and}
 use Rattle.tree_reader.proofs.read_list.Reads as read-list

@@ -8,7 +8,6 @@ use Rattle.decimal.specs.Text.{put, decimal}
 use Rattle.decimal.proofs.Put.{put-then}
 use Rattle.tree_text.specs.Text.{nodeText, listText}
 use Rattle.tree_text.proofs.Printed.{node-none, node-more, list-end, list-under, list-other}
-use Prim.Native.Nat.{ℕ, _<_}
 use borrow.Fn.Kinds.{In}
 use borrow.Fn.PlainCycle.{Measures, is, falls, and}
 use Rattle.tree_writer.proofs.write_list.Reads as write-list
