@@ -30,6 +30,22 @@ pub enum Refusal {
 }
 
 impl Refusal {
+    /// In the order of their numbers.
+    pub const ALL: [Refusal; 12] = [
+        Refusal::NodeCount,
+        Refusal::StartFlags,
+        Refusal::Unsound,
+        Refusal::Closed,
+        Refusal::UnknownKind,
+        Refusal::UnknownNode,
+        Refusal::SelfMessage,
+        Refusal::RuleFails,
+        Refusal::SendLimit,
+        Refusal::NotAForm,
+        Refusal::MoveLimit,
+        Refusal::ShortBuffer,
+    ];
+
     /// The number in the paper's table.
     pub fn number(self) -> u32 {
         self as u32
@@ -42,30 +58,5 @@ pub(crate) fn require(condition: bool) -> Result<(), Refusal> {
         Ok(())
     } else {
         Err(Refusal::RuleFails)
-    }
-}
-
-#[cfg(test)]
-mod tests {
-    use super::Refusal::*;
-
-    #[test]
-    fn numbers_of_the_table() {
-        let table = [
-            NodeCount,
-            StartFlags,
-            Unsound,
-            Closed,
-            UnknownKind,
-            UnknownNode,
-            SelfMessage,
-            RuleFails,
-            SendLimit,
-            NotAForm,
-            MoveLimit,
-            ShortBuffer,
-        ];
-        let numbers: Vec<u32> = table.iter().map(|refusal| refusal.number()).collect();
-        assert_eq!(numbers, [1, 2, 3, 4, 5, 6, 7, 8, 9, 10, 11, 12]);
     }
 }

@@ -166,7 +166,7 @@ pub fn step(ring: &mut LentRing, request: Request) -> u8 {
             &mut ring.q,
             &mut ring.black,
             &mut ring.closed,
-            request.kind as usize,
+            request.kind,
             request.i,
             request.j,
         )
@@ -243,7 +243,7 @@ pub fn tree_step(tree: &mut LentTree, request: Request) -> u8 {
             tree.acks.as_mut_ptr(),
             &mut tree.sends,
             &mut tree.closed,
-            request.kind as usize,
+            request.kind,
             request.i,
             request.j,
         )

@@ -1,0 +1,12 @@
+//! What the docs say of the repository is so: the names that they give are there, the page of edits names every must-fail edit, the files
+//! that a reader has to believe are all named and as long as is said, every statement is proved under its own name, and every crate stands
+//! on one floor.
+
+mod believed;
+mod declared;
+mod edits;
+mod layout;
+mod names;
+mod refusals;
+mod repository;
+mod statements;
