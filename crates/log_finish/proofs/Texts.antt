@@ -8,13 +8,13 @@ use mathlib.Core.Path.{_∙_, _≡_, ap, subst, subst⁻¹}
 use native.Mathlib.Omega.{arith}
 use Rattle.forms.specs.Form.{lineBytes}
 use Rattle.log_beginning.specs.Open.{SoundStage, stageBy}
-use Rattle.log_state.proofs.Held.{held-least}
-use Rattle.log_state.specs.Feed.{Good, stageOf}
-use Rattle.log_state.specs.declared.Log.{Log}
 use Rattle.log_rules.proofs.Cuts.{rest-cut, rest-done, rest-full}
 use Rattle.log_rules.specs.Lines.{lineLimit}
 use Rattle.log_rules.specs.Output.{restOf}
 use Rattle.log_rules.specs.Pieces.{PartLine, heldOf, notTold}
+use Rattle.log_state.proofs.Held.{held-least}
+use Rattle.log_state.specs.Feed.{Good, stageOf}
+use Rattle.log_state.specs.declared.Log.{Log}
 use Rattle.log_text.specs.Wrote.{Wrote}
 use Rattle.refusal.specs.declared.Refusal.the-variants.{NotAForm}
 use Rattle.refusal.specs.declared.Verdict.the-variants.{Refused}

@@ -5,12 +5,12 @@ use mathlib.Core.List.{List, [], _++_, append-assoc, append-nil}
 use mathlib.Core.Path.{_∙_, _≡_, ap, refl, sym}
 use native.Mathlib.Omega.{arith}
 use Rattle.decimal.proofs.Put.{put-stands}
-use Rattle.log_state.proofs.Theorems.{settled}
-use Rattle.log_state.specs.Feed.{stageOf}
-use Rattle.log_state.specs.declared.Log.{Log}
 use Rattle.log_rules.specs.Lines.{joined}
 use Rattle.log_rules.specs.Output.{outputOf, restOf}
 use Rattle.log_rules.specs.Pieces.{heldOf}
+use Rattle.log_state.proofs.Theorems.{settled}
+use Rattle.log_state.specs.Feed.{stageOf}
+use Rattle.log_state.specs.declared.Log.{Log}
 use Rattle.log_text.specs.Wrote.{Wrote}
 use Rattle.log_finish.specs.Finish.{Finished}
 use Rattle.log_finish.specs.Theorems.{CutsDoNotMatter, Feeds, no-piece, piece}

@@ -4,12 +4,12 @@ use lib.Dec.{ltb}
 use lib.ListN.{length}
 use mathlib.Core.Bool.{cond}
 use mathlib.Core.List.{List, []}
-use Rattle.log_state.specs.Feed.{stageOf}
-use Rattle.log_state.specs.declared.Log.{Log}
 use Rattle.log_rules.specs.Answers.{answerText}
 use Rattle.log_rules.specs.Lines.{lineLimit}
 use Rattle.log_rules.specs.Output.{restOf}
 use Rattle.log_rules.specs.Pieces.{heldOf}
+use Rattle.log_state.specs.Feed.{stageOf}
+use Rattle.log_state.specs.declared.Log.{Log}
 use Rattle.log_text.specs.Wrote.{Wrote}
 use Rattle.refusal.specs.declared.Refusal.the-variants.{NotAForm}
 use Rattle.refusal.specs.declared.Verdict.the-variants.{Refused}

@@ -4,12 +4,12 @@ use lib.ListN.{take}
 use mathlib.Core.Bool.{true}
 use mathlib.Core.List.{List, [], _++_, _∷_}
 use mathlib.Core.Path.{_≡_}
-use Rattle.log_state.specs.Feed.{FedFrom, Good, decided, stageOf}
-use Rattle.log_state.specs.declared.Fed.{Fed}
-use Rattle.log_state.specs.declared.Log.{Log}
 use Rattle.log_rules.specs.Lines.{joined}
 use Rattle.log_rules.specs.Output.{outputOf}
 use Rattle.log_rules.specs.Pieces.{heldOf}
+use Rattle.log_state.specs.Feed.{FedFrom, Good, decided, stageOf}
+use Rattle.log_state.specs.declared.Fed.{Fed}
+use Rattle.log_state.specs.declared.Log.{Log}
 use Rattle.log_finish.specs.Finish.{Finished}
 use Rattle.log_rules.specs.Answers as rules
 

@@ -8,11 +8,11 @@ use mathlib.Core.Bool.{Bool, false, true}
 use mathlib.Core.List.{List, [], _++_, _∷_}
 use mathlib.Core.Path.{_≡_}
 use Rattle.log_finish.specs.Theorems.{Feeds}
-use Rattle.log_state.specs.Feed.{Good, stageOf}
-use Rattle.log_state.specs.declared.Log.{Log}
 use Rattle.log_rules.specs.Answers.{fresh}
 use Rattle.log_rules.specs.Lines.{joined}
 use Rattle.log_rules.specs.Output.{outputOf}
+use Rattle.log_state.specs.Feed.{Good, stageOf}
+use Rattle.log_state.specs.declared.Log.{Log}
 use Rattle.watch.specs.Turn.{Turned}
 use Rattle.watch.specs.declared.Step.{Step}
 

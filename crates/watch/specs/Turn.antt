@@ -7,9 +7,9 @@ use lib.Signed.{ltZ}
 use mathlib.Core.Bool.{Bool, _&&_, _||_, not}
 use mathlib.Core.List.{List}
 use mathlib.Core.Path.{_≡_}
+use Rattle.log_rules.specs.Pieces.{heldOf}
 use Rattle.log_state.specs.Feed.{FedFrom, decided, stageOf}
 use Rattle.log_state.specs.declared.Log.{Log}
-use Rattle.log_rules.specs.Pieces.{heldOf}
 use Rattle.watch.specs.declared.Step.{Step}
 
 -- the first n bytes of a piece are answered: the first `count` bytes of `out′` are what the definition says of them
