@@ -20,7 +20,7 @@ use Rattle.forms.specs.Form.{spacedNumbers, formText, Small, Ascending, SmallFo
 use Rattle.forms.specs.Read.{spacedOf, Read, read, other}
 use Rattle.forms.proofs.Arguments.{spaced-sound, spaced-found, place}
 use Rattle.forms.proofs.Lines.{form-line, form-some, line-rest}
-use Rattle.first_line.specs.declared.Kind.the-variants.{NotAForm}
+use Rattle.first_line.specs.declared.FirstKind.the-variants.{NotAForm}
 use Rattle.first_line.specs.declared.First.{First}
 use Rattle.first_line.specs.Start.{Start, bare, lists, tree, startForm, noFirst, seen, seenOf}
 use Rattle.first_line.specs.Read.{entriesAt, blackAt, activeAt, listsAt, ringAfter, rootAfter, treeAfter, startAt, fitted, firstAt}

@@ -7,7 +7,7 @@ use lib.Dec.{ltb}
 use lib.Bits.{bitOr}
 use Rattle.forms.specs.Form.{Form, bareRing, ringWith, treeOf}
 use Rattle.forms.specs.Read.{Read, read, other}
-use Rattle.first_line.specs.declared.Kind.the-variants.{Ring, Tree, NotAForm}
+use Rattle.first_line.specs.declared.FirstKind.the-variants.{Ring, Tree, NotAForm}
 use Rattle.first_line.specs.declared.First.{First}
 
 -- a first line: a ring without lists, a ring with both, a tree

@@ -10,7 +10,7 @@ ghost use Rattle.first_line.specs.Start.{noFirst, ringFirst, treeFirst, 
 ghost use Rattle.first_line.specs.Read.{noMarks, marksOf, entriesAt, afterBlack, afterActive, listsAt, ringAfter, rootAfter, treeAfter, startAt, firstAt};
 ghost use Rattle.first_line.specs.Exact.{Opened};
 
-pub enum Kind {
+pub enum FirstKind {
     Ring,
     Tree,
     NotAForm,
@@ -19,7 +19,7 @@ pub enum Kind {
 // What a first line says. A ring: its n nodes, a start flag for each of the first 96 (1 active, 2 black), and one more than the largest
 // node that its lists name. A tree: its n nodes and its root. `end` is the index past the line's byte 10.
 pub struct First {
-    pub kind: Kind,
+    pub kind: FirstKind,
     pub n: usize,
     pub root: usize,
     pub flags: [u8; RING_NODES],
@@ -39,7 +39,7 @@ fn no_first() -> First
     ensures { λ r. ⌜ r ≡ noFirst ⌝ }
 {
     First {
-        kind: Kind::NotAForm,
+        kind: FirstKind::NotAForm,
         n: 0,
         root: 0,
         flags: [0; RING_NODES],
@@ -52,7 +52,7 @@ fn ring_first(n: usize, flags: [u8; RING_NODES], top: usize, end: usize) -> Firs
     ensures { λ r. ⌜ r ≡ ringFirst n flags top end ⌝ }
 {
     First {
-        kind: Kind::Ring,
+        kind: FirstKind::Ring,
         n,
         root: 0,
         flags,
@@ -65,7 +65,7 @@ fn tree_first(n: usize, root: usize, end: usize) -> First
     ensures { λ r. ⌜ r ≡ treeFirst n root end ⌝ }
 {
     First {
-        kind: Kind::Tree,
+        kind: FirstKind::Tree,
         n,
         root,
         flags: [0; RING_NODES],

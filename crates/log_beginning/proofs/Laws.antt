@@ -8,7 +8,7 @@ use native.Mathlib.Omega.{arith}
 use Rattle.first_line.specs.Meaning.{Flags}
 use Rattle.first_line.specs.Read.{firstAt}
 use Rattle.first_line.specs.declared.First.{First}
-use Rattle.first_line.specs.declared.Kind.{Kind}
+use Rattle.first_line.specs.declared.FirstKind.{FirstKind}
 use Rattle.forms.specs.Read.{read}
 use Rattle.log_rules.proofs.First.{flags-fit}
 use Rattle.log_text.proofs.Texts.{answer-short}
@@ -22,7 +22,7 @@ use Rattle.ring_rules.specs.Answers.{Answer}
 use Rattle.log_beginning.specs.Open.{Begins, stageBy}
 use Rattle.log_beginning.specs.declared.Opening.{Opening}
 use Rattle.log_rules.specs.Answers as rules
-use Rattle.first_line.specs.declared.Kind.the-variants as line
+use Rattle.first_line.specs.declared.FirstKind.the-variants as line
 use Rattle.ring_rules.specs.State as ring
 use Rattle.ring_rules.specs.Start as ringStart
 use Rattle.first_line.specs.Start as starts
@@ -96,6 +96,6 @@ module _ (f : First) {a : treeAnswers.Answer} (s : a ≡ treeStart.startOf (f .n
 
 -- ---- what is read of a line by itself
 
-pub run-told : (l : List ℕ) {f : First} {k : Kind} → f ≡ starts.seenOf (firstAt l 0) → f .kind ≡ k → rules.firstTold k f ≡ rules.lineTold rules.fresh 1 l
+pub run-told : (l : List ℕ) {f : First} {k : FirstKind} → f ≡ starts.seenOf (firstAt l 0) → f .kind ≡ k → rules.firstTold k f ≡ rules.lineTold rules.fresh 1 l
 unfolding rules.lineTold
-run-told l {f} is kind = ap (λ (x : Kind). rules.firstTold x f) (sym kind) ∙ ap (λ (g : First). rules.firstTold (g .kind) g) is
+run-told l {f} is kind = ap (λ (x : FirstKind). rules.firstTold x f) (sym kind) ∙ ap (λ (g : First). rules.firstTold (g .kind) g) is

@@ -1,6 +1,6 @@
 // The first line of a log: what it says begins a run, or is refused.
 use first_line::First;
-use first_line::Kind;
+use first_line::FirstKind;
 use first_line::read_first;
 use log_text::put_answer;
 use refusal::RING_NODES;
@@ -61,7 +61,7 @@ pub fn refuse(e: Refusal, out: &mut [u8]) -> Opening
 
 fn open_ring(f: First, out: &mut [u8]) -> Opening
     requires { ⌜ (answerBytes ≤ length (now out)) × Flags (f .flags) ⌝ }
-    ensures { λ o. ⌜ Begins (firstTold Kind.Ring f) o (now (out .entry)) (now (out .exit)) ⌝ }
+    ensures { λ o. ⌜ Begins (firstTold FirstKind.Ring f) o (now (out .entry)) (now (out .exit)) ⌝ }
 {
     let n = f.n;
     if n == 0 {
@@ -88,7 +88,7 @@ fn open_ring(f: First, out: &mut [u8]) -> Opening
 
 fn open_tree(f: First, out: &mut [u8]) -> Opening
     requires { ⌜ answerBytes ≤ length (now out) ⌝ }
-    ensures { λ o. ⌜ Begins (firstTold Kind.Tree f) o (now (out .entry)) (now (out .exit)) ⌝ }
+    ensures { λ o. ⌜ Begins (firstTold FirstKind.Tree f) o (now (out .entry)) (now (out .exit)) ⌝ }
 {
     let s = Tree::start(f.n, f.root);
     let v = s.verdict;
@@ -116,8 +116,8 @@ pub fn open_run(line: &[u8], out: &mut [u8]) -> Opening
     let f = read_first(line, 0);
     let kind = f.kind;
     match kind {
-        Kind::Ring => open_ring(f, out),
-        Kind::Tree => open_tree(f, out),
-        Kind::NotAForm => refuse(Refusal::NotAForm, out),
+        FirstKind::Ring => open_ring(f, out),
+        FirstKind::Tree => open_tree(f, out),
+        FirstKind::NotAForm => refuse(Refusal::NotAForm, out),
     }
 }

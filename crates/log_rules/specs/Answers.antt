@@ -9,7 +9,7 @@ use Rattle.decimal.specs.Text.{decimal}
 use Rattle.first_line.specs.Read.{firstAt}
 use Rattle.first_line.specs.Start.{seenOf}
 use Rattle.first_line.specs.declared.First.{First}
-use Rattle.first_line.specs.declared.Kind.{Kind}
+use Rattle.first_line.specs.declared.FirstKind.{FirstKind}
 use Rattle.forms.specs.Read.{ringAt, treeAt}
 use Rattle.forms.specs.declared.RingLine.{RingLine}
 use Rattle.forms.specs.declared.RingStep.{RingStep}
@@ -33,7 +33,7 @@ use Rattle.forms.specs.declared.RingStep.the-variants as ringStep
 use Rattle.forms.specs.declared.TreeStep.the-variants as treeStep
 use Rattle.forms.specs.declared.RingLine.the-variants as ringLine
 use Rattle.forms.specs.declared.TreeLine.the-variants as treeLine
-use Rattle.first_line.specs.declared.Kind.the-variants as line
+use Rattle.first_line.specs.declared.FirstKind.the-variants as line
 
 -- what a log has come to: nothing is read yet; a ring's run, with its accepted token moves; a tree's run; or the first line was
 -- refused, and nothing more is answered
@@ -95,7 +95,7 @@ openedBy Accepted s = record { stage = s; text = answerText 1 Accepted }
 openedBy (Refused e) s = record { stage = over; text = answerText 1 (Refused e) }
 
 -- what a first line says begins the run, or is refused
-abbrev pub firstTold : Kind → First → Told
+abbrev pub firstTold : FirstKind → First → Told
 firstTold line.Ring f = openedBy (firstOf (ringTable f)) (onRing (ringStart.firstState (f .n) (take (f .n) (f .flags))) 0)
 firstTold line.Tree f = openedBy (treeStart.startVerdict (f .n) (f .root)) (onTree (treeStart.firstState (f .n) (f .root)))
 firstTold line.NotAForm f = openedBy (Refused NotAForm) fresh

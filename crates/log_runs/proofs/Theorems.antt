@@ -11,7 +11,7 @@ use native.Mathlib.Omega.{arith}
 use Rattle.first_line.specs.Read.{firstAt}
 use Rattle.first_line.specs.Start.{seenOf}
 use Rattle.first_line.specs.declared.First.{First}
-use Rattle.first_line.specs.declared.Kind.{Kind}
+use Rattle.first_line.specs.declared.FirstKind.{FirstKind}
 use Rattle.forms.specs.Form.{Says, announce}
 use Rattle.forms.specs.Read.{ringAt, treeAt}
 use Rattle.forms.specs.declared.RingLine.{RingLine}
@@ -39,7 +39,7 @@ use Rattle.log_runs.specs.First.{FirstAsks, StartAsk, no-start}
 use Rattle.log_runs.specs.Says.{Ask, BegunOpen, Each, RingAsks, TreeAsks, cut, line, no-line, other, requestsIn, says, RingSays, TreeSays, moveBy, movesIn, printed, stageAfter}
 use Rattle.log_runs.specs.Theorems.{LogRuns, Ok, RingCountdown}
 use Rattle.log_rules.specs.Theorems as lines
-use Rattle.first_line.specs.declared.Kind.the-variants as line
+use Rattle.first_line.specs.declared.FirstKind.the-variants as line
 use Rattle.forms.specs.declared.RingLine.the-variants as ringLine
 use Rattle.forms.specs.declared.RingStep.the-variants as ringStep
 use Rattle.forms.specs.declared.TreeLine.the-variants as treeLine
@@ -293,7 +293,7 @@ first l = go (seenOf (firstAt l 0) .kind)
     tree Accepted e = rw e (treeStart.first-open (f .n) (f .root) (treeStart.fits (f .n) (f .root) e))
     tree (Refused x) e = rw e tt
 
-    go : (k : Kind) → BegunOpen (firstTold k f .stage)
+    go : (k : FirstKind) → BegunOpen (firstTold k f .stage)
     go line.Ring = ring (firstOf (ringTable f)) refl
     go line.Tree = tree (treeFirst.startVerdict (f .n) (f .root)) refl
     go line.NotAForm = tt

@@ -11,7 +11,7 @@ use Rattle.decimal.specs.Text.{decimal}
 use Rattle.refusal.specs.declared.Refusal.{Refusal}
 use Rattle.refusal.specs.declared.Refusal.the-variants.{NotAForm, UnknownNode}
 use Rattle.refusal.specs.declared.Verdict.the-variants.{Accepted, Refused}
-use Rattle.tree_faults.specs.Trees.{AllBelow, Nodes, Tree, node, none, treeText}
+use Rattle.tree_faults.specs.Trees.{AllBelow, Nodes, TreeShape, node, none, treeText}
 use Rattle.tree_text.specs.Read.{readOf}
 use Rattle.tree_text.specs.Text.{opening, space, textOf}
 use Rattle.tree_text.specs.Theorems.{EngagementTree}
@@ -31,7 +31,7 @@ pub record BeginsText (n : ℕ) (u : List ℕ) : Type 0 where
   pub root : ℕ
   pub children : Nodes
   pub rest : List ℕ
-  pub tree : Tree root children
+  pub tree : TreeShape root children
   pub text : treeText root children ≡ u ++ rest
   pub below : (v end : ℕ) → NumberTo u v end → end < length u → v < n
 
@@ -83,7 +83,7 @@ pub record Near (n : ℕ) (s : List ℕ) (place : ℕ) : Type 0 where
 pub record WholeText (n : ℕ) (s : List ℕ) : Type 0 where
   pub root : ℕ
   pub children : Nodes
-  pub tree : Tree root children
+  pub tree : TreeShape root children
   pub numbers : AllBelow n (node root children none)
   pub text : s ≡ treeText root children
 

@@ -35,6 +35,6 @@ AllBelow n none = Unit {0}
 AllBelow n (node k children after) = (k < n) × AllBelow n children × AllBelow n after
 
 -- a root with its children: lists ascend, and no number is there twice
-pub record Tree (root : ℕ) (children : Nodes) : Type 0 where
+pub record TreeShape (root : ℕ) (children : Nodes) : Type 0 where
   pub ascends : Ascends 0 children
   pub once : (d : ℕ) → times d (node root children none) ≤ 1
