@@ -9,7 +9,6 @@ use Rattle.first_line.specs.Meaning.{Flags}
 use Rattle.first_line.specs.Read.{firstAt}
 use Rattle.first_line.specs.declared.First.{First}
 use Rattle.first_line.specs.declared.FirstKind.{FirstKind}
-use Rattle.forms.specs.Read.{read}
 use Rattle.log_rules.proofs.First.{flags-fit}
 use Rattle.log_text.proofs.Texts.{answer-short}
 use Rattle.log_text.specs.Wrote.{Wrote}

@@ -1,6 +1,6 @@
 -- What a first line begins.
-use Prim.Native.Nat.{_<_, _≤_, ℕ}
-use lib.ListN.{getD, length}
+use Prim.Native.Nat.{_≤_, ℕ}
+use lib.ListN.{length}
 use mathlib.Core.List.{List}
 use mathlib.Core.Path.{_≡_}
 use Rattle.log_text.specs.Wrote.{Wrote}
