@@ -109,7 +109,8 @@ fn step_line(
     out: &mut [u8],
 ) -> RingRun
     requires { ⌜ Ready r (whole (r .rest) (now active) (now color) (now sent) (now received) (now pending)) (now out) ⌝ }
-    ensures { λ t. ⌜ RingLineAnswered r t (whole (r .rest) (now (active .entry)) (now (color .entry)) (now (sent .entry)) (now (received .entry)) (now (pending .entry)))
+    ensures { λ t. ⌜ RingLineAnswered r t
+        (whole (r .rest) (now (active .entry)) (now (color .entry)) (now (sent .entry)) (now (received .entry)) (now (pending .entry)))
         (whole (t .rest) (now (active .exit)) (now (color .exit)) (now (sent .exit)) (now (received .exit)) (now (pending .exit)))
         (RingLine.Step f end) end (now (out .entry)) (now (out .exit)) ⌝ }
 {

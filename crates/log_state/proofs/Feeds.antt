@@ -40,8 +40,8 @@ cut-of : {lines next : ℕ} {piece : List ℕ} → NoMore lines next piece → l
 cut-of (full h) under = absurd (let z : ⊥ = omega arith in z)
 cut-of (cut h) under = h
 
-pub held-rest : (lines next : ℕ) (piece line line′ : List ℕ) (len : ℕ) → NoMore lines next piece → lines < lineLimit → next ≤ length piece → length line ≡ lineBytes
-    → (len ≡ min (0 + (length piece - next)) longBytes) × (take len line′ ≡ take lineBytes (take 0 line ++ part piece next (length piece)))
+pub held-rest : (lines next : ℕ) (piece line line′ : List ℕ) (len : ℕ) → NoMore lines next piece → lines < lineLimit → next ≤ length piece
+    → length line ≡ lineBytes → (len ≡ min (0 + (length piece - next)) longBytes) × (take len line′ ≡ take lineBytes (take 0 line ++ part piece next (length piece)))
     → HeldRest lines next piece len line′
 held-rest lines next piece line line′ len no-more under inside n h =
     let all = part-all piece next inside in
@@ -70,8 +70,8 @@ fed-went f w h sound places r = record {
 }
 
 -- nothing more is answered
-pub over-fed : (l : Log) (text line out : List ℕ) (at : ℕ) → stageOf l ≡ rules.over → l .len ≡ 0 → l .lines ≤ lineLimit → length line ≡ lineBytes → at ≤ length out
-    → FedFrom (stageOf l) (l .lines) [] text (record { log = l; count = at }) line at out out
+pub over-fed : (l : Log) (text line out : List ℕ) (at : ℕ) → stageOf l ≡ rules.over → l .len ≡ 0 → l .lines ≤ lineLimit
+    → length line ≡ lineBytes → at ≤ length out → FedFrom (stageOf l) (l .lines) [] text (record { log = l; count = at }) line at out out
 unfolding put
 over-fed l text line out at e unheld most places enough = record {
   written = [];
@@ -219,7 +219,8 @@ whole-fed l m f piece line line₁ line₂ out out₁ out₂ e len g found h a b
     let w = forms.line piece in
     let held = heldOf line (l .len) in
     let same = part-line piece e (found .past) in
-    let count : len ≡ min (l .len + length w) longBytes = h .0 ∙ ap (λ (x : ℕ). min (l .len + x) longBytes) (sub-zero e ∙ (found .past ∙ zero-add (length w))) in
+    let count : len ≡ min (l .len + length w) longBytes =
+    h .0 ∙ ap (λ (x : ℕ). min (l .len + x) longBytes) (sub-zero e ∙ (found .past ∙ zero-add (length w))) in
     let s = held-more line line₁ w (l .len) len (g .places) count (h .1 ∙ ap (λ (x : List ℕ). take lineBytes (take (l .len) line ++ x)) same) in
     let en = ended-append (g .part) (found .line-ends) in
     let halves : piece ≡ w ++ drop e piece = line-rest piece ∙ ap (λ (i : ℕ). w ++ drop i piece) (sym (found .past ∙ zero-add (length w))) in

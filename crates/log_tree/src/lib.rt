@@ -77,7 +77,8 @@ fn step_line(
     out: &mut [u8],
 ) -> TreeRun
     requires { ⌜ Ready r (whole (r .rest) (now active) (now engager) (now unacked) (now transit) (now acks)) (now out) ⌝ }
-    ensures { λ t. ⌜ TreeLineAnswered r t (whole (r .rest) (now (active .entry)) (now (engager .entry)) (now (unacked .entry)) (now (transit .entry)) (now (acks .entry)))
+    ensures { λ t. ⌜ TreeLineAnswered r t
+        (whole (r .rest) (now (active .entry)) (now (engager .entry)) (now (unacked .entry)) (now (transit .entry)) (now (acks .entry)))
         (whole (t .rest) (now (active .exit)) (now (engager .exit)) (now (unacked .exit)) (now (transit .exit)) (now (acks .exit)))
         (TreeLine.Step f end) end (now (out .entry)) (now (out .exit)) ⌝ }
 {
