@@ -12,7 +12,7 @@ use borrow.Author.Tests.{le-leb, lt-leb, leb-true, leb-false, le-ltb, ltb-false,
 use Rattle.decimal.specs.declared.Num.{Num}
 use Rattle.decimal.specs.declared.Num.the-variants.{Value, Wrong}
 use Rattle.decimal.specs.Text.{decimal}
-use Rattle.decimal.specs.Number.{digitB, capped, stopped, scanOf, checked, numberOf, keptOf, shortOf}
+use Rattle.decimal.specs.Number.{digitB, capped, stopped, scanOf, checked, numberAt, keptOf, shortOf}
 use Rattle.decimal.specs.Exact.{Stands, NumberAt, ShortAt}
 use Rattle.decimal.proofs.Cases.{both-left, both-right, both-off, split, rest, take-head, first-of, advance}
 use Rattle.decimal.proofs.Decimal.{decimal-small, decimal-large, decimal-induct, decimal-some}
@@ -177,8 +177,8 @@ number-run : (s : List ℕ) (at : ℕ) → (r : Run (drop at s))
     → scanOf (drop at s) 0 at ≡ stopped (min (value 0 (r .digits)) 100000) (at + length (r .digits))
 number-run s at r = ap (λ (l : List ℕ). scanOf l 0 at) (r .is) ∙ scan-run (r .digits) (r .others) 0 at (r .all) (r .end)
 
-pub number-sound : (s : List ℕ) (at v e : ℕ) → numberOf s at ≡ Value v e → NumberAt s at v e
-unfolding numberOf checked
+pub number-sound : (s : List ℕ) (at v e : ℕ) → numberAt s at ≡ Value v e → NumberAt s at v e
+unfolding numberAt checked
 number-sound s at v e h =
     let r = run-of (drop at s) in
     let w = min (value 0 (r .digits)) 100000 in
@@ -214,8 +214,8 @@ not-led s at n u h =
     (split n 10)
 
 pub number-found : (s : List ℕ) (at n : ℕ) (u : List ℕ) → drop at s ≡ decimal n ++ u → digitB (getD u 0 0) ≡ false
-    → numberOf s at ≡ Value (min n 100000) (at + length (decimal n))
-unfolding numberOf checked
+    → numberAt s at ≡ Value (min n 100000) (at + length (decimal n))
+unfolding numberAt checked
 number-found s at n u p k =
     let some : at < at + length (decimal n) = omega (arith, decimal-some n) in
     let run : scanOf (drop at s) 0 at ≡ stopped (min n 100000) (at + length (decimal n)) =
@@ -228,12 +228,12 @@ number-found s at n u p k =
 pub after : (s : List ℕ) (e : ℕ) → digitB (getD s e 0) ≡ false → digitB (getD (drop e s) 0 0) ≡ false
 after s e h = ap digitB (sym (first-of s (drop e s) e refl)) ∙ h
 
-number-back : (s : List ℕ) (at v e : ℕ) → NumberAt s at v e → numberOf s at ≡ Value v e
+number-back : (s : List ℕ) (at v e : ℕ) → NumberAt s at v e → numberAt s at ≡ Value v e
 number-back s at v e (n, st, val) =
     number-found s at n (drop e s) (st .text) (after s e (st .last))
     ∙ (ap (λ (x : ℕ). Value x (at + length (decimal n))) (sym val) ∙ ap (Value v) (sym (st .ends)))
 
-pub number-exact : (s : List ℕ) (at v e : ℕ) → (numberOf s at ≡ Value v e) ↔ NumberAt s at v e
+pub number-exact : (s : List ℕ) (at v e : ℕ) → (numberAt s at ≡ Value v e) ↔ NumberAt s at v e
 number-exact s at v e = (number-sound s at v e, number-back s at v e)
 
 -- what is held at 100000 is compared with a bound as the number itself
@@ -251,7 +251,7 @@ kept-sound Wrong v e h = no-number v e h
 
 pub short-sound : (s : List ℕ) (at n e : ℕ) → shortOf s at ≡ Value n e → ShortAt s at n e
 short-sound s at n e h =
-    let k = kept-sound (numberOf s at) n e h in
+    let k = kept-sound (numberAt s at) n e h in
     let r = number-sound s at n e (k .0) in
     let same : r .0 ≡ n = omega (arith, r .2, k .1) in
     (subst (λ (x : ℕ). Stands s at x e) same (r .1), k .1)
@@ -262,7 +262,7 @@ pub short-found : (s : List ℕ) (at n : ℕ) (u : List ℕ) → n ≤ 99999 →
 unfolding keptOf
 short-found s at n u h p k =
     let c : min n 100000 ≡ n = omega arith in
-    let f : numberOf s at ≡ Value n (at + length (decimal n)) =
+    let f : numberAt s at ≡ Value n (at + length (decimal n)) =
     number-found s at n u p k ∙ ap (λ (x : ℕ). Value x (at + length (decimal n))) c in
     (rw (f, le-ltb 99999 n h), advance s (decimal n) u at p)
 

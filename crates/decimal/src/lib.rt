@@ -4,7 +4,7 @@ ghost use Prim.Native.Nat.{_+_, _≤_};
 ghost use lib.ListN.{length, getD, drop};
 ghost use Rattle.decimal.specs.Text.{put, decimal, lastDigits};
 ghost use Rattle.decimal.specs.Word.{starts};
-ghost use Rattle.decimal.specs.Number.{numberCap, digitB, capped, scanOf, numberOf, keptOf, shortOf};
+ghost use Rattle.decimal.specs.Number.{numberCap, digitB, capped, scanOf, numberAt, keptOf, shortOf};
 
 // The byte at `at`, or 0 past the end.
 pub fn byte_at(s: &[u8], at: usize) -> u8
@@ -94,7 +94,7 @@ pub enum Num {
 
 // A number of any length without leading zero, up to its last digit: NUMBER_CAP stands for every value above NUMBER_LIMIT.
 pub fn number(s: &[u8], at: usize) -> Num
-    ensures { λ r. ⌜ r ≡ numberOf (now (s .entry)) at ⌝ }
+    ensures { λ r. ⌜ r ≡ numberAt (now (s .entry)) at ⌝ }
 {
     let run = scan_digits(s, at);
     if run.at <= at {

@@ -23,7 +23,7 @@ use Rattle.forms.proofs.Lines.{form-line, form-some, line-rest}
 use Rattle.first_line.specs.declared.FirstKind.the-variants.{NotAForm}
 use Rattle.first_line.specs.declared.First.{First}
 use Rattle.first_line.specs.Start.{Start, bare, lists, tree, startForm, noFirst, seen, seenOf}
-use Rattle.first_line.specs.Read.{entriesAt, blackAt, activeAt, listsAt, ringAfter, rootAfter, treeAfter, startAt, fitted, firstAt}
+use Rattle.first_line.specs.Read.{entriesAt, blackRead, activeRead, listsAt, ringAfter, rootAfter, treeAfter, startAt, fitted, firstAt}
 use Rattle.first_line.specs.Exact.{Opened}
 use Rattle.first_line.proofs.Nodes.{Listed, list-sound, list-found}
 
@@ -70,8 +70,8 @@ module _ (s : List ℕ) (at : ℕ) where
       pick-sound (starts w (drop q s)) _ b (λ h. (text (word-sound s q w h), word-in s q w n h, small)) g
 
   black-sound : (n : ℕ) (a : List ℕ) (x : ℕ) → Small n → Ascending 0 a → drop at s ≡ activeTo n a (bytes ") (black" ++ drop x s)
-      → (r : Read (List ℕ)) → Listed s 0 x r → Sound (blackAt s n a r)
-  unfolding blackAt
+      → (r : Read (List ℕ)) → Listed s 0 x r → Sound (blackRead s n a r)
+  unfolding blackRead
   black-sound n a x small asc e other h = tt
   black-sound n a x small asc e (read b q) h =
       last-sound (bytes "))\n") q (lists n a b) (omega arith) (small, asc, h .0)
@@ -81,8 +81,8 @@ module _ (s : List ℕ) (at : ℕ) where
       other tt
 
   active-sound : (n x : ℕ) → Small n → drop at s ≡ ringTo n (bytes " (active" ++ drop x s)
-      → (r : Read (List ℕ)) → Listed s 0 x r → Sound (activeAt s n r)
-  unfolding activeAt
+      → (r : Read (List ℕ)) → Listed s 0 x r → Sound (activeRead s n r)
+  unfolding activeRead
   active-sound n x small e other h = tt
   active-sound n x small e (read a q) h =
       pick-sound (starts (bytes ") (black") (drop q s)) _ other
@@ -156,7 +156,7 @@ module _ (s : List ℕ) (at : ℕ) where
 
   lists-found : (n : ℕ) (a b u : List ℕ) → Small n → Ascending 0 a → Ascending 0 b → drop at s ≡ blackTo n a b (bytes "))\n" ++ u)
       → (e : ℕ) × (startAt s at ≡ read (lists n a b) e)
-  unfolding ringAfter listsAt activeAt blackAt starts
+  unfolding ringAfter listsAt activeRead blackRead starts
   lists-found n a b u small ha hb h =
       let E = bytes "))\n" ++ u in
       let B = spacedNumbers b ++ E in

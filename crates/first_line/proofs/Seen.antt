@@ -11,23 +11,23 @@ use Rattle.forms.specs.Form.{lineBytes}
 use Rattle.forms.specs.Read.{Read, read, other}
 use Rattle.first_line.specs.declared.First.{First}
 use Rattle.first_line.specs.Start.{Start, bare, lists, tree, zeros, noFirst, flagAll, topOf, seen, seenOf}
-use Rattle.first_line.specs.Read.{entriesAt, marksOf, afterBlack, afterActive, blackAt, activeAt, startAt, fitted, firstAt}
+use Rattle.first_line.specs.Read.{entriesAt, marksOf, afterBlack, afterActive, blackRead, activeRead, startAt, fitted, firstAt}
 
 pick-seen : (t : Bool) (a b : Read Start) → cond t (seenOf a) (seenOf b) ≡ seenOf (cond t a b)
 pick-seen true a b = refl
 pick-seen false a b = refl
 
 black-seen : (s : List ℕ) (n : ℕ) (active : List ℕ) (r : Read (List ℕ))
-    → afterBlack s n (marksOf 2 (flagAll 1 active zeros) (topOf active 0) r) ≡ seenOf (blackAt s n active r)
-unfolding afterBlack blackAt
+    → afterBlack s n (marksOf 2 (flagAll 1 active zeros) (topOf active 0) r) ≡ seenOf (blackRead s n active r)
+unfolding afterBlack blackRead
 black-seen s n active (read black q) = pick-seen (starts (bytes "))\n") (drop q s)) (read (lists n active black) (q + 3)) other
 black-seen s n active other = refl
 
-pub active-seen : (s : List ℕ) (n : ℕ) (r : Read (List ℕ)) → afterActive s n (marksOf 1 zeros 0 r) ≡ seenOf (activeAt s n r)
-unfolding afterActive activeAt
+pub active-seen : (s : List ℕ) (n : ℕ) (r : Read (List ℕ)) → afterActive s n (marksOf 1 zeros 0 r) ≡ seenOf (activeRead s n r)
+unfolding afterActive activeRead
 active-seen s n (read active q) =
     ap (λ (x : First). cond (starts (bytes ") (black") (drop q s)) x noFirst) (black-seen s n active (entriesAt s (q + 8)))
-    ∙ pick-seen (starts (bytes ") (black") (drop q s)) (blackAt s n active (entriesAt s (q + 8))) other
+    ∙ pick-seen (starts (bytes ") (black") (drop q s)) (blackRead s n active (entriesAt s (q + 8))) other
 active-seen s n other = refl
 
 -- a line that is too long, and one that is not

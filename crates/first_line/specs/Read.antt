@@ -50,16 +50,16 @@ afterActive s n a =
     noFirst
 
 -- 3. the line
-unfoldable pub blackAt : List ℕ → ℕ → List ℕ → Read (List ℕ) → Read Start
-blackAt s n active (read black q) = cond (starts (bytes "))\n") (drop q s)) (read (lists n active black) (q + 3)) other
-blackAt s n active other = other
+unfoldable pub blackRead : List ℕ → ℕ → List ℕ → Read (List ℕ) → Read Start
+blackRead s n active (read black q) = cond (starts (bytes "))\n") (drop q s)) (read (lists n active black) (q + 3)) other
+blackRead s n active other = other
 
-unfoldable pub activeAt : List ℕ → ℕ → Read (List ℕ) → Read Start
-activeAt s n (read active q) = cond (starts (bytes ") (black") (drop q s)) (blackAt s n active (entriesAt s (q + 8))) other
-activeAt s n other = other
+unfoldable pub activeRead : List ℕ → ℕ → Read (List ℕ) → Read Start
+activeRead s n (read active q) = cond (starts (bytes ") (black") (drop q s)) (blackRead s n active (entriesAt s (q + 8))) other
+activeRead s n other = other
 
 unfoldable pub listsAt : List ℕ → ℕ → ℕ → Read Start
-listsAt s n at = cond (starts (bytes " (active") (drop at s)) (activeAt s n (entriesAt s (at + 8))) other
+listsAt s n at = cond (starts (bytes " (active") (drop at s)) (activeRead s n (entriesAt s (at + 8))) other
 
 unfoldable pub ringAfter : List ℕ → Num → Read Start
 ringAfter s (Value n p) = cond (starts (bytes ")\n") (drop p s)) (read (bare n) (p + 2)) (listsAt s n p)

@@ -31,5 +31,5 @@ use Rattle.tree_rules.specs.Termination.{acksTotal}
 use Rattle.tree_text.specs.Text.{childrenText, listText, nodeText}
 
 pub examples-hold : ExamplesHold
-unfolding scanOf checked number.numberOf keptOf digits decimal starts line spacedOf closedOf oneOf secondOf twoOf madeOf readBy ringAt treeAt entryOf entriesOf read.activeAt read.blackAt read.afterActive read.afterBlack listsAt ringAfter rootAfter treeAfter startAt firstAt lineTold split linesTold restOf verdictOf answerOf conclusive mayProbe mayPass shapeTest rangeTest flowTest sumTest passiveAbove whiteTo gatheredTest safraTest unusedTest closedTest soundTest activeFrom colorFrom firstState inTransit blackNodes isBlack blackened whitened _⊖_ isPositive isZero isSame countTo outputs expected tree.verdictOf tree.answerOf mayLeave treeRules.conclusive sound.shapeTest sound.rangeTest engagerTest chainTest balanceTest restTest pairTest placeTest limitTest sound.closedTest sound.soundTest treeStart.firstState treeStart.startVerdict messagesFrom children climb acksTotal sumTo childrenText nodeText listText
+unfolding scanOf checked number.numberAt keptOf digits decimal starts line spacedOf closedOf oneOf secondOf twoOf madeOf readBy ringAt treeAt entryOf entriesOf read.activeRead read.blackRead read.afterActive read.afterBlack listsAt ringAfter rootAfter treeAfter startAt firstAt lineTold split linesTold restOf verdictOf answerOf conclusive mayProbe mayPass shapeTest rangeTest flowTest sumTest passiveAbove whiteTo gatheredTest safraTest unusedTest closedTest soundTest activeFrom colorFrom firstState inTransit blackNodes isBlack blackened whitened _⊖_ isPositive isZero isSame countTo outputs expected tree.verdictOf tree.answerOf mayLeave treeRules.conclusive sound.shapeTest sound.rangeTest engagerTest chainTest balanceTest restTest pairTest placeTest limitTest sound.closedTest sound.soundTest treeStart.firstState treeStart.startVerdict messagesFrom children climb acksTotal sumTo childrenText nodeText listText
 examples-hold = refl

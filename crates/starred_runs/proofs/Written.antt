@@ -23,5 +23,5 @@ use Rattle.ring_rules.specs.Start as ringStart
 use Rattle.ring_runs.specs.Requests as ringRequests
 
 pub written-pass : allPass written ≡ true
-unfolding written numbers ringRequests.numbers texts passes allPass isBlack blackened whitened _⊖_ isPositive isZero isSame sumTo ringRules.conclusive ringSound.shapeTest ringSound.rangeTest flowTest sumTest passiveAbove whiteTo gatheredTest safraTest unusedTest ringSound.closedTest ringSound.soundTest mayProbe ring.verdictOf activeFrom colorFrom flagsTest ringStart.firstState ringStart.startVerdict ringStart.startOf decimal digits childrenText nodeText scanOf checked number.numberOf andThen entered closed bodyOf nodeBy listOf nodeOf readOf
+unfolding written numbers ringRequests.numbers texts passes allPass isBlack blackened whitened _⊖_ isPositive isZero isSame sumTo ringRules.conclusive ringSound.shapeTest ringSound.rangeTest flowTest sumTest passiveAbove whiteTo gatheredTest safraTest unusedTest ringSound.closedTest ringSound.soundTest mayProbe ring.verdictOf activeFrom colorFrom flagsTest ringStart.firstState ringStart.startVerdict ringStart.startOf decimal digits childrenText nodeText scanOf checked number.numberAt andThen entered closed bodyOf nodeBy listOf nodeOf readOf
 written-pass = refl

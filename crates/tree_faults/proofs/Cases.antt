@@ -8,7 +8,7 @@ use native.Mathlib.Decide.{decLt, ℕ-discrete}
 use native.Mathlib.Omega.{arith}
 use Rattle.decimal.specs.Bytes.{bytes}
 use Rattle.decimal.specs.Exact.{Stands}
-use Rattle.decimal.specs.Number.{checked, numberOf, scanOf}
+use Rattle.decimal.specs.Number.{checked, numberAt, scanOf}
 use Rattle.decimal.specs.Text.{decimal, digits}
 use Rattle.refusal.specs.declared.Refusal.{Refusal}
 use Rattle.refusal.specs.declared.Refusal.the-variants.{NotAForm, UnknownNode}
@@ -164,7 +164,7 @@ module _ (n k : ℕ) (last-number : n ≤ k + 1) where
         elim (decLt (length upto) (N .last)) [ yes l ↦ absurd (no-further l) | no g ↦ omega (arith, least) ]
 
 pub all-cases : AllCases
-unfolding decimal digits scanOf checked numberOf andThen entered closed bodyOf nodeBy listOf nodeOf readOf
+unfolding decimal digits scanOf checked numberAt andThen entered closed bodyOf nodeBy listOf nodeOf readOf
 all-cases = record {
   empty = (NotAForm, refl, refl, place-is empty);
   after-the-end = (NotAForm, refl, refl, place-after (space ∷ []) zero-alone refl);

@@ -14,7 +14,7 @@ use Rattle.decimal.proofs.Cases.{both-off, in-text}
 use Rattle.decimal.proofs.Decimal.{decimal-small, decimal-some}
 use Rattle.decimal.proofs.Numbers.{Digits, after, decimal-digits, decimal-head, decimal-value, digit-low, more-digit, no-number, scan-end, scan-more, scan-none, value}
 use Rattle.decimal.specs.Exact.{Stands}
-use Rattle.decimal.specs.Number.{capped, checked, digitB, numberOf, scanOf, stopped}
+use Rattle.decimal.specs.Number.{capped, checked, digitB, numberAt, scanOf, stopped}
 use Rattle.decimal.specs.declared.Scan.{Scan}
 use Rattle.decimal.specs.declared.Num.the-variants.{Value, Wrong}
 use Rattle.decimal.specs.Text.{decimal}
@@ -168,9 +168,9 @@ checked-fine b at run h (inl z) = rw (lt-leb (run .at) at h, ne-eqb b 48 z)
 checked-fine b at run h (inr k) = rw (lt-leb (run .at) at h, le-ltb (at + 1) (run .at) k, both-off (eqb b 48))
 
 -- where no number stands there is no digit, or a leading zero
-pub no-number-there : (s : List ℕ) (at : ℕ) → numberOf s at ≡ Wrong → digitB (getD s at 0) ≡ true
+pub no-number-there : (s : List ℕ) (at : ℕ) → numberAt s at ≡ Wrong → digitB (getD s at 0) ≡ true
     → (getD s at 0 ≡ 48) × (digitB (getD s (at + 1) 0) ≡ true)
-unfolding numberOf
+unfolding numberAt
 no-number-there s at h d =
     elim (split (digitB (getD s (at + 1) 0))) [
       | inr q ↦ fine (inr (omega (arith, ap (λ (x : Scan). x .at) (more ∙ last q))))

@@ -11,7 +11,7 @@ use native.Mathlib.Omega.{arith}
 use Rattle.decimal.proofs.Cases.{first-of, in-text, rest}
 use Rattle.decimal.proofs.Numbers.{number-sound}
 use Rattle.decimal.specs.Exact.{NumberAt, Stands}
-use Rattle.decimal.specs.Number.{digitB, numberOf}
+use Rattle.decimal.specs.Number.{digitB, numberAt}
 use Rattle.decimal.specs.Text.{decimal}
 use Rattle.decimal.specs.declared.Num.{Num}
 use Rattle.decimal.specs.declared.Num.the-variants.{Value, Wrong}
@@ -61,7 +61,7 @@ module _ (s : List ℕ) (n : ℕ) (some : 0 < n) (n16 : n ≤ 16) where
             let z : k ≡ 0 = zero-only k (F .more) (F .text ∙ ap (λ (b : ℕ). b ∷ F .more) (p ∙ byte)) in
             no-place (omega arith) (ap (used e) (sym z) ∙ u)
 
-    wrong : numberOf s (at + 1) ≡ Wrong → FaultAt s n at (NodeText e low) NotAForm
+    wrong : numberAt s (at + 1) ≡ Wrong → FaultAt s n at (NodeText e low) NotAForm
     wrong h =
         elim (split (digitB (getD s (at + 1) 0))) [
           | inr q ↦ (at + 1, no-number s n at e low places lows bracket (λ k o u p. false-true (sym (ap digitB p ∙ q) ∙ first k .digit)))
@@ -174,7 +174,7 @@ module _ (s : List ℕ) (n : ℕ) (some : 0 < n) (n16 : n ≤ 16) where
               ]
 
       -- its number is judged
-      numbered : getD s (r .at) 0 ≡ opening → (num : Num) → numberOf s (r .at + 1) ≡ num
+      numbered : getD s (r .at) 0 ≡ opening → (num : Num) → numberAt s (r .at + 1) ≡ num
           → andThen (entered n r by low num) (bodyOf (listOf left s n) s) .verdict ≡ Refused f → Answer
       numbered bracket Wrong is h =
           subst (FaultAt s n (r .at) (NodeText (r .engager) low))
@@ -229,7 +229,7 @@ module _ (s : List ℕ) (n : ℕ) (some : 0 < n) (n16 : n ≤ 16) where
             | no q ↦
                 subst (FaultAt s n (r .at) (NodeText (r .engager) low)) (why NotAForm (node-no left s n r by low q) refl h)
                 (r .at, no-bracket s n (r .at) (r .engager) low places lows q before)
-            | yes q ↦ numbered q (numberOf s (r .at + 1)) refl (ap (λ (x : Reading). x .verdict) (sym (node-yes left s n r by low q)) ∙ h)
+            | yes q ↦ numbered q (numberAt s (r .at + 1)) refl (ap (λ (x : Reading). x .verdict) (sym (node-yes left s n r by low q)) ∙ h)
           ]
 
   -- ---- a list

@@ -5,7 +5,7 @@ use mathlib.Core.List.{List}
 use mathlib.Core.Logic.{_≢_}
 use mathlib.Core.Path.{_∙_, _≡_, ap, sym}
 use native.Mathlib.Omega.{arith}
-use Rattle.decimal.specs.Number.{numberOf}
+use Rattle.decimal.specs.Number.{numberAt}
 use Rattle.refusal.specs.declared.Refusal.{Refusal}
 use Rattle.refusal.specs.declared.Verdict.the-variants.{Accepted, Refused}
 use Rattle.tree_text.proofs.Steps.{body-is, list-more, node-yes, then-no, then-yes}
@@ -14,7 +14,7 @@ use Rattle.tree_text.specs.Read.{andThen, bodyOf, closed, entered, listOf, node
 use Rattle.tree_text.specs.Text.{opening, space}
 use Rattle.tree_text.specs.declared.Reading.{Reading}
 
-module _ (left : ℕ) (s : List ℕ) (n : ℕ) (r : Reading) (by low : ℕ) (byte : getD s (r .at) 0 ≡ opening) (m : Reading) (is : m ≡ entered n r by low (numberOf s (r .at + 1))) where
+module _ (left : ℕ) (s : List ℕ) (n : ℕ) (r : Reading) (by low : ℕ) (byte : getD s (r .at) 0 ≡ opening) (m : Reading) (is : m ≡ entered n r by low (numberAt s (r .at + 1))) where
   whole : nodeOf left s n r by low ≡ andThen m (bodyOf (listOf left s n) s)
   whole = node-yes left s n r by low byte ∙ ap (λ (x : Reading). andThen x (bodyOf (listOf left s n) s)) (sym is)
 
@@ -23,7 +23,7 @@ module _ (left : ℕ) (s : List ℕ) (n : ℕ) (r : Reading) (by low : ℕ) (byt
 
   pub node-below : m .verdict ≡ Accepted → m .node < n
   node-below v =
-      let E = enter-taken n r m by low (numberOf s (r .at + 1)) (sym is) v in
+      let E = enter-taken n r m by low (numberAt s (r .at + 1)) (sym is) v in
       omega (arith, E .inside, ap (λ (x : Reading). x .node) (E .placing))
 
   module _ (v : m .verdict ≡ Accepted) (l : Reading) (list : l ≡ listOf left s n m (m .node) 0) where

@@ -9,7 +9,7 @@ use mathlib.Core.Logic.{inl, inr}
 use mathlib.Core.Path.{_∙_, _≡_, ap, refl, subst, sym}
 use native.Mathlib.Decide.{ℕ-discrete}
 use native.Mathlib.Omega.{arith}
-use Rattle.decimal.specs.Number.{numberOf}
+use Rattle.decimal.specs.Number.{numberAt}
 use Rattle.refusal.specs.declared.Verdict.the-variants.{Accepted}
 use Rattle.tree_text.proofs.Lists.{blank, free, free-falls, free-most, free-set, sized}
 use Rattle.tree_text.proofs.Steps.{body-is, list-next, list-none, node-no, node-yes, then-no, then-yes, verdict-of}
@@ -47,11 +47,11 @@ module _ (s : List ℕ) (n : ℕ) (n16 : n ≤ 16) where
       ]
     where
       m : Reading
-      m = entered n r by low (numberOf s (r .at + 1))
+      m = entered n r by low (numberAt s (r .at + 1))
 
       bodies : m .verdict ≡ Accepted → bodyOf (listOf f s n) s m ≡ bodyOf (listOf g s n) s m
       bodies a =
-          let E = enter-taken n r m by low (numberOf s (r .at + 1)) refl a in
+          let E = enter-taken n r m by low (numberAt s (r .at + 1)) refl a in
           let M : Reading = placed r (E .k) by (E .at) in
           let k16 : E .k < 16 = omega (arith, E .inside) in
           let fewer = free-set (r .engager) (E .k) (cond (eqb by 16) (E .k) by) l k16 (value (E .k) by k16 hb) (E .entry) in

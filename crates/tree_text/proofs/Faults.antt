@@ -6,7 +6,7 @@ use mathlib.Core.Logic.{_≢_, _⊎_, inl, inr}
 use mathlib.Core.Path.{_∙_, _≡_, ap, refl}
 use native.Mathlib.Decide.{decLt}
 use native.Mathlib.Omega.{arith}
-use Rattle.decimal.specs.Number.{numberOf}
+use Rattle.decimal.specs.Number.{numberAt}
 use Rattle.decimal.proofs.Numbers.{number-exact, number-sound}
 use Rattle.decimal.specs.Exact.{Stands}
 use Rattle.decimal.specs.declared.Num.{Num}
@@ -21,13 +21,13 @@ use Rattle.tree_text.specs.declared.Reading.{Reading}
 
 module _ (left : ℕ) (s : List ℕ) (n : ℕ) (r : Reading) (by low : ℕ) (b : getD s (r .at) 0 ≡ opening) where
   -- a number that is refused is the node's fault
-  refused-at : (m : Num) (f : Refusal) → numberOf s (r .at + 1) ≡ m → entered n r by low m ≡ refused r f → nodeOf left s n r by low ≡ refused r f
+  refused-at : (m : Num) (f : Refusal) → numberAt s (r .at + 1) ≡ m → entered n r by low m ≡ refused r f → nodeOf left s n r by low ≡ refused r f
   refused-at m f is h =
       node-yes left s n r by low b
       ∙ (ap (λ (x : Reading). andThen x (bodyOf (listOf left s n) s)) (ap (entered n r by low) is ∙ h)
       ∙ then-no (refused r f) (bodyOf (listOf left s n) s) f refl)
 
-  found : (v e : ℕ) → Stands s (r .at + 1) v e → numberOf s (r .at + 1) ≡ Value (min v 100000) e
+  found : (v e : ℕ) → Stands s (r .at + 1) v e → numberAt s (r .at + 1) ≡ Value (min v 100000) e
   found v e st = number-exact s (r .at + 1) (min v 100000) e .1 (v, st, refl)
 
   large : (v e : ℕ) → n ≤ 16 → Stands s (r .at + 1) v e → n ≤ v → nodeOf left s n r by low ≡ refused r UnknownNode
@@ -46,9 +46,9 @@ module _ (left : ℕ) (s : List ℕ) (n : ℕ) (r : Reading) (by low : ℕ) (b :
           elim (decLt v low) [ yes l ↦ enter-low n r by low v e h l | no g ↦ enter-again n r by low v e h (omega arith) f ]
 
   none : ((v e : ℕ) → Stands s (r .at + 1) v e → ⊥) → nodeOf left s n r by low ≡ refused r NotAForm
-  none h = by-number (numberOf s (r .at + 1)) refl
+  none h = by-number (numberAt s (r .at + 1)) refl
     where
-      by-number : (m : Num) → numberOf s (r .at + 1) ≡ m → nodeOf left s n r by low ≡ refused r NotAForm
+      by-number : (m : Num) → numberAt s (r .at + 1) ≡ m → nodeOf left s n r by low ≡ refused r NotAForm
       by-number Wrong is = refused-at Wrong NotAForm is (enter-wrong n r by low)
       by-number (Value k e) is = let w = number-sound s (r .at + 1) k e is in absurd (h (w .0) e (w .1))
 

@@ -11,7 +11,7 @@ use native.Mathlib.Nat.{add-zero}
 use native.Mathlib.Omega.{arith}
 use Rattle.decimal.proofs.Cases.{advance, first-of, take-head}
 use Rattle.decimal.proofs.Numbers.{number-found}
-use Rattle.decimal.specs.Number.{digitB, numberOf}
+use Rattle.decimal.specs.Number.{digitB, numberAt}
 use Rattle.decimal.specs.Text.{decimal}
 use Rattle.decimal.specs.declared.Num.the-variants.{Value}
 use Rattle.refusal.specs.declared.Verdict.the-variants.{Accepted}
@@ -32,7 +32,7 @@ after e at k = record { verdict = Accepted; engager = e; at = at; node = k }
 
 module _ (s : List ℕ) (n : ℕ) (n16 : n ≤ 16) where
   number-read : (at k : ℕ) (u : List ℕ) → k < n → drop at s ≡ decimal k ++ u → digitB (getD u 0 0) ≡ false
-      → numberOf s at ≡ Value k (at + length (decimal k))
+      → numberAt s at ≡ Value k (at + length (decimal k))
   number-read at k u kn h d =
       let c : min k 100000 ≡ k = omega arith in
       number-found s at k u h d ∙ ap (λ (x : ℕ). Value x (at + length (decimal k))) c
@@ -47,8 +47,8 @@ module _ (s : List ℕ) (n : ℕ) (n16 : n ≤ 16) where
   node-given left r by low k {e} {e′} {t} u a kn lk f h g =
       let th = take-head s (r .at) opening (decimal k ++ (t ++ (closing ∷ u))) h in
       let at = r .at + 1 + length (decimal k) in
-      let num : numberOf s (r .at + 1) ≡ Value k at = number-read (r .at + 1) k (t ++ (closing ∷ u)) kn (th .1) (no-digit u a) in
-      let enter : entered n r by low (numberOf s (r .at + 1)) ≡ placed r k by at = ap (entered n r by low) num ∙ enter-new n r by low k at kn lk f in
+      let num : numberAt s (r .at + 1) ≡ Value k at = number-read (r .at + 1) k (t ++ (closing ∷ u)) kn (th .1) (no-digit u a) in
+      let enter : entered n r by low (numberAt s (r .at + 1)) ≡ placed r k by at = ap (entered n r by low) num ∙ enter-new n r by low k at kn lk f in
       let M : Reading = placed r k by at in
       let L : Reading = listOf left s n M k 0 in
       let stands : drop at s ≡ t ++ (closing ∷ u) = advance s (decimal k) (t ++ (closing ∷ u)) (r .at + 1) (th .1) in

@@ -6,7 +6,7 @@ use mathlib.Core.List.{List}
 use mathlib.Core.Logic.{_≢_, _⊎_, inl, inr}
 use mathlib.Core.Path.{_∙_, _≡_, ap, refl}
 use native.Mathlib.Omega.{arith}
-use Rattle.decimal.specs.Number.{numberOf}
+use Rattle.decimal.specs.Number.{numberAt}
 use Rattle.decimal.specs.declared.Num.the-variants.{Value, Wrong}
 use Rattle.refusal.specs.declared.Refusal.{Refusal}
 use Rattle.refusal.specs.declared.Refusal.the-variants.{NotAForm, UnknownNode}
@@ -71,7 +71,7 @@ module _ (left : ℕ) (s : List ℕ) (n : ℕ) (r : Reading) (by low : ℕ) wher
   node-no h = rw (ne-eqb (getD s (r .at) 0) opening h)
 
   pub node-yes : getD s (r .at) 0 ≡ opening
-      → nodeOf left s n r by low ≡ andThen (entered n r by low (numberOf s (r .at + 1))) (bodyOf (listOf left s n) s)
+      → nodeOf left s n r by low ≡ andThen (entered n r by low (numberAt s (r .at + 1))) (bodyOf (listOf left s n) s)
   unfolding nodeOf nodeBy
   node-yes h = rw (eq-eqb (getD s (r .at) 0) opening h)
 

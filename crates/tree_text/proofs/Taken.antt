@@ -10,7 +10,7 @@ use mathlib.Core.Path.{_∙_, _≡_, ap, refl, subst, sym}
 use native.Mathlib.Decide.{decLt, ℕ-discrete}
 use native.Mathlib.Nat.{add-zero}
 use native.Mathlib.Omega.{arith}
-use Rattle.decimal.specs.Number.{numberOf}
+use Rattle.decimal.specs.Number.{numberAt}
 use Rattle.decimal.proofs.Cases.{in-text, rest}
 use Rattle.decimal.proofs.Numbers.{number-sound}
 use Rattle.decimal.specs.Exact.{Stands}
@@ -118,7 +118,7 @@ module _ (s : List ℕ) (n : ℕ) (n16 : n ≤ 16) where
   TakesLists left =
       (r m : Reading) (k low : ℕ) → k < 16 → listOf left s n r k low ≡ m → m .verdict ≡ Accepted → ListTaken s n r m k low
 
-  number-stands : (at k e : ℕ) → numberOf s at ≡ Value k e → k < n → Stands s at k e
+  number-stands : (at k e : ℕ) → numberAt s at ≡ Value k e → k < n → Stands s at k e
   number-stands at k e h kn =
       let w = number-sound s at k e h in
       let same : w .0 ≡ k = omega (arith, w .2) in
@@ -127,8 +127,8 @@ module _ (s : List ℕ) (n : ℕ) (n16 : n ≤ 16) where
   node-by : (left : ℕ) → TakesLists left → (r m : Reading) (by low : ℕ) → getD s (r .at) 0 ≡ opening
       → nodeOf left s n r by low ≡ m → m .verdict ≡ Accepted → NodeTaken s n r m by low
   node-by left lists r m by low q h a =
-      let A = then-accepted (entered n r by low (numberOf s (r .at + 1))) (bodyOf (listOf left s n) s) m (sym (node-yes left s n r by low q) ∙ h) a in
-      let E = enter-taken n r (entered n r by low (numberOf s (r .at + 1))) by low (numberOf s (r .at + 1)) refl (A .0) in
+      let A = then-accepted (entered n r by low (numberAt s (r .at + 1))) (bodyOf (listOf left s n) s) m (sym (node-yes left s n r by low q) ∙ h) a in
+      let E = enter-taken n r (entered n r by low (numberAt s (r .at + 1))) by low (numberAt s (r .at + 1)) refl (A .0) in
       let M : Reading = placed r (E .k) by (E .at) in
       let body : andThen (listOf left s n M (E .k) 0) (closed s (E .k)) ≡ m =
       sym (body-is left s n M) ∙ (ap (bodyOf (listOf left s n) s) (sym (E .placing)) ∙ A .1) in

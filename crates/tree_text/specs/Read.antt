@@ -5,7 +5,7 @@ use lib.Dec.{eqb, leb, ltb}
 use lib.ListN.{getD, length, replicate, set}
 use mathlib.Core.Bool.{_&&_, cond, not}
 use mathlib.Core.List.{List, [], _∷_}
-use Rattle.decimal.specs.Number.{numberOf}
+use Rattle.decimal.specs.Number.{numberAt}
 use Rattle.decimal.specs.declared.Num.{Num}
 use Rattle.decimal.specs.declared.Num.the-variants.{Value, Wrong}
 use Rattle.refusal.specs.Table.{Row, _⟶_, firstOf, settle}
@@ -71,7 +71,7 @@ bodyOf list s m = andThen (list m (m .node) 0) (closed s (m .node))
 unfoldable pub nodeBy : (Reading → ℕ → ℕ → Reading) → List ℕ → ℕ → Reading → ℕ → ℕ → Reading
 nodeBy list s n r by low =
     cond (eqb (getD s (r .at) 0) opening)
-    (andThen (entered n r by low (numberOf s (r .at + 1))) (bodyOf list s))
+    (andThen (entered n r by low (numberAt s (r .at + 1))) (bodyOf list s))
     (refused r NotAForm)
 
 -- the children of k from `low` on, each after one space; `left` is above the number of nodes that are not in the tree yet
