@@ -25,11 +25,11 @@ use Rattle.ring_rules.specs.Start.{startOf}
 use Rattle.ring_rules.specs.State.{State}
 use Rattle.ring_rules.specs.declared.Reason.{Reason}
 use Rattle.ring_rules.specs.declared.Reason.the-variants.{Conclusive, Spent, Stopped, Waiting}
-use Rattle.lent.specs.Ring.{DrivenTo, Lent, StartedTo, SteppedTo, driveReason, flagsTest, lent, lentOf, stateOf, stepVerdict}
+use Rattle.lent.specs.Ring.{DrivenTo, Lent, StartedTo, SteppedTo, driveReason, truthsTest, lent, lentOf, stateOf, stepVerdict}
 
 -- flags are what their truths give back
-pub ring-back : (l : Lent) → flagsTest l ≡ true → lentOf (stateOf l) ≡ l
-unfolding flagsTest
+pub ring-back : (l : Lent) → truthsTest l ≡ true → lentOf (stateOf l) ≡ l
+unfolding truthsTest
 ring-back l f =
     let a = both (areFlags (l .active)) (isFlag (l .black) && isFlag (l .closed)) f in
     let b = both (isFlag (l .black)) (isFlag (l .closed)) (a .1) in
@@ -60,12 +60,12 @@ by-step l kind i j number after w e t f =
       fields = f ∙ sym (ap (λ (v : Verdict). settle v (lentOf (stepOf (stateOf l) kind i j .state)) l) e);
     }
 
-pub step-unflagged : {l : Lent} {kind i j number : ℕ} → flagsTest l ≡ false → number ≡ 3 → SteppedTo l kind i j number l
+pub step-unflagged : {l : Lent} {kind i j number : ℕ} → truthsTest l ≡ false → number ≡ 3 → SteppedTo l kind i j number l
 step-unflagged {l} {kind} {i} {j} {number} f t = by-step l kind i j number l (Refused Unsound) (rw f) t refl
 
 pub step-refused :
     {l : Lent} {kind i j number : ℕ} (r : State) (a : Answer) {e : Refusal} → r ≡ stateOf l → a ≡ stepOf r kind i j
-    → flagsTest l ≡ true → a .verdict ≡ Refused e → number ≡ codeOf (a .verdict) → SteppedTo l kind i j number l
+    → truthsTest l ≡ true → a .verdict ≡ Refused e → number ≡ codeOf (a .verdict) → SteppedTo l kind i j number l
 step-refused {l} {kind} {i} {j} {number} r a {e} p s f v t =
     by-step l kind i j number l (Refused e)
     (rw (f, ← p) (ap (λ (x : Answer). x .verdict) (sym s) ∙ v))
@@ -78,7 +78,7 @@ withNodes n s = lent n (s .active) (s .color) (s .sent) (s .received) (s .pendin
 
 pub step-accepted :
     {l : Lent} {kind i j : ℕ} (r : State) (a : Answer) (s : Lent) → r ≡ stateOf l → a ≡ stepOf r kind i j
-    → flagsTest l ≡ true → a .verdict ≡ Accepted → s ≡ lentOf (a .state) → SteppedTo l kind i j 0 (withNodes (l .n) s)
+    → truthsTest l ≡ true → a .verdict ≡ Accepted → s ≡ lentOf (a .state) → SteppedTo l kind i j 0 (withNodes (l .n) s)
 step-accepted {l} {kind} {i} {j} r a s p q f v h =
     let e : a ≡ stepOf (stateOf l) kind i j = q ∙ ap (λ (x : State). stepOf x kind i j) p in
     let n : l .n ≡ a .state .n = sym (ap (λ (x : Answer). x .state .n) e ∙ nodes-kept (stateOf l) kind i j) in
@@ -119,7 +119,7 @@ by-drive l limit number moves moves′ after w e t m f =
       fields = f ∙ sym (ap (λ (v : Reason). settle (reasonVerdict v) (lentOf (driveOf (stateOf l) limit .state)) l) e);
     }
 
-pub drive-unflagged : {l : Lent} {limit number moves : ℕ} → flagsTest l ≡ false → number ≡ 3 → DrivenTo l limit number moves moves l
+pub drive-unflagged : {l : Lent} {limit number moves : ℕ} → truthsTest l ≡ false → number ≡ 3 → DrivenTo l limit number moves moves l
 drive-unflagged {l} {limit} {number} {moves} f t = by-drive l limit number moves moves l (Stopped Unsound) (rw f) t refl refl
 
 stopped-by : (w : Reason) (e : Refusal) → reasonVerdict w ≡ Refused e → reasonNumber w ≡ codeOf (Refused e)
@@ -130,7 +130,7 @@ stopped-by (Stopped r) e p = ap codeOf p
 
 pub drive-refused :
     {l : Lent} {limit number moves : ℕ} (r : State) (d : Driven) (v : Verdict) {e : Refusal} → r ≡ stateOf l → d ≡ driveOf r limit
-    → flagsTest l ≡ true → v ≡ reasonVerdict (d .reason) → v ≡ Refused e → number ≡ codeOf v → DrivenTo l limit number moves moves l
+    → truthsTest l ≡ true → v ≡ reasonVerdict (d .reason) → v ≡ Refused e → number ≡ codeOf v → DrivenTo l limit number moves moves l
 drive-refused {l} {limit} {number} {moves} r d v {e} p s f u w t =
     let x : reasonVerdict (d .reason) ≡ Refused e = sym u ∙ w in
     by-drive l limit number moves moves l (d .reason)
@@ -140,7 +140,7 @@ drive-refused {l} {limit} {number} {moves} r d v {e} p s f u w t =
     (rw x)
 
 -- what the driver does not change is the same, bytes and all
-driven-over : (l : Lent) (s : State) → flagsTest l ≡ true → unmoved (stateOf l) ≡ unmoved s → drivenOver l s ≡ lentOf s
+driven-over : (l : Lent) (s : State) → truthsTest l ≡ true → unmoved (stateOf l) ≡ unmoved s → drivenOver l s ≡ lentOf s
 driven-over l s f k =
     let e = sym (ring-back l f) in
     let active : l .active ≡ bytesOf (s .active) = ap (λ (x : Lent). x .active) e ∙ (λ x. bytesOf (k x .1)) in
@@ -149,7 +149,7 @@ driven-over l s f k =
 
 pub drive-accepted :
     {l after : Lent} {limit number moves moves′ : ℕ} (r : State) (d : Driven) (v : Verdict) → r ≡ stateOf l → d ≡ driveOf r limit
-    → flagsTest l ≡ true → v ≡ reasonVerdict (d .reason) → v ≡ Accepted → number ≡ reasonNumber (d .reason) → moves′ ≡ d .moves
+    → truthsTest l ≡ true → v ≡ reasonVerdict (d .reason) → v ≡ Accepted → number ≡ reasonNumber (d .reason) → moves′ ≡ d .moves
     → after ≡ drivenOver l (d .state) → DrivenTo l limit number moves moves′ after
 drive-accepted {l} {after} {limit} {number} {moves} {moves′} r d v p s f u w t m h =
     let e : d ≡ driveOf (stateOf l) limit = s ∙ ap (λ (x : State). driveOf x limit) p in

@@ -29,14 +29,14 @@ use Rattle.tree_rules.specs.Start as treeStart
 use Rattle.tree_rules.specs.State as treeState
 use Rattle.lent.proofs.Ring.{ring-back}
 use Rattle.lent.proofs.Tree.{tree-back}
-use Rattle.lent.specs.Ring.{driveReason, flagsTest, lentOf, soundNumber, stateOf, stepVerdict}
+use Rattle.lent.specs.Ring.{driveReason, truthsTest, lentOf, soundNumber, stateOf, stepVerdict}
 use Rattle.lent.specs.Theorems.{FieldsHold, SoundLeft}
-use Rattle.lent.specs.Tree.{lentTreeOf, treeFlagsTest, treeOf, treeSoundNumber, treeStepVerdict}
+use Rattle.lent.specs.Tree.{lentTreeOf, treeTruthsTest, treeOf, treeSoundNumber, treeStepVerdict}
 
 -- ---- the fields of a state
 
 pub fields-hold : FieldsHold
-unfolding flagsTest treeFlagsTest
+unfolding truthsTest treeTruthsTest
 fields-hold =
     record {
       ring = λ r.
@@ -103,16 +103,16 @@ sound-left =
       step = λ {l} {after} {kind} {i} {j} s.
           let v = code-accepted (stepVerdict l kind i j) (sym (s .told)) in
           ap soundNumber (s .fields ∙ settled (stepVerdict l kind i j) _ _ v)
-          ∙ ring-sound _ (ring.sound-kept .step (stateOf l) (ringRules.kindOf kind) i j (judged (flagsTest l) _ v));
+          ∙ ring-sound _ (ring.sound-kept .step (stateOf l) (ringRules.kindOf kind) i j (judged (truthsTest l) _ v));
       drive = λ {l} {after} {limit} s h.
           let v = went-on (driveReason l limit) (rw (← s .told) h) in
           ap soundNumber (s .fields ∙ settled (reasonVerdict (driveReason l limit)) _ _ v)
-          ∙ ring-sound _ (drive-sound (stateOf l) limit (drive-judged (flagsTest l) _ v));
+          ∙ ring-sound _ (drive-sound (stateOf l) limit (drive-judged (truthsTest l) _ v));
       tree-start = λ {nodes} {at} s.
           let v = code-accepted (treeStart.startVerdict nodes at) (sym (s .told)) in
           ap treeSoundNumber (s .fields ∙ settled (treeStart.startVerdict nodes at) _ _ v) ∙ tree-sound _ (tree.sound-kept .start nodes at v .sound);
       tree-step = λ {l} {after} {kind} {i} {j} s.
           let v = code-accepted (treeStepVerdict l kind i j) (sym (s .told)) in
           ap treeSoundNumber (s .fields ∙ settled (treeStepVerdict l kind i j) _ _ v)
-          ∙ tree-sound _ (tree.sound-kept .step (treeOf l) (treeRules.kindOf kind) i j (judged (treeFlagsTest l) _ v));
+          ∙ tree-sound _ (tree.sound-kept .step (treeOf l) (treeRules.kindOf kind) i j (judged (treeTruthsTest l) _ v));
     }

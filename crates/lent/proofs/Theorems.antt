@@ -15,8 +15,8 @@ use Rattle.ring_rules.specs.declared.Reason.the-variants.{Conclusive, Spent, St
 use Rattle.tree_text.specs.Read.{readOf}
 use Rattle.ring_rules.specs.Start as ring
 use Rattle.tree_rules.specs.Start as tree
-use Rattle.lent.specs.Ring.{Lent, driveReason, driveVerdict, flagsTest, stepVerdict}
-use Rattle.lent.specs.Tree.{LentTree, treeFlagsTest, treeStepVerdict, writeVerdict}
+use Rattle.lent.specs.Ring.{Lent, driveReason, driveVerdict, truthsTest, stepVerdict}
+use Rattle.lent.specs.Tree.{LentTree, treeTruthsTest, treeStepVerdict, writeVerdict}
 use Rattle.lent.specs.Theorems.{BytesJudged, NoFlag, NoTreeFlag, RefusalsKeep, inActive, inBlack, inClosed}
 
 -- ---- a refusal keeps
@@ -57,8 +57,8 @@ refusals-keep =
 
 -- ---- a byte above 1
 
-flags-fail : {l : Lent} → NoFlag l → flagsTest l ≡ false
-unfolding flagsTest
+flags-fail : {l : Lent} → NoFlag l → truthsTest l ≡ false
+unfolding truthsTest
 flags-fail {l} (inActive k h) = rw (no-flags (l .active) k h)
 flags-fail {l} (inBlack h) =
     ap (λ (b : Bool). areFlags (l .active) && (b && isFlag (l .closed))) (no-flag (l .black) h) ∙ and-false (areFlags (l .active))
@@ -66,8 +66,8 @@ flags-fail {l} (inClosed h) =
     ap (λ (b : Bool). areFlags (l .active) && (isFlag (l .black) && b)) (no-flag (l .closed) h)
     ∙ (ap (λ (b : Bool). areFlags (l .active) && b) (and-false (isFlag (l .black))) ∙ and-false (areFlags (l .active)))
 
-tree-flags-fail : {l : LentTree} → NoTreeFlag l → treeFlagsTest l ≡ false
-unfolding treeFlagsTest
+tree-flags-fail : {l : LentTree} → NoTreeFlag l → treeTruthsTest l ≡ false
+unfolding treeTruthsTest
 tree-flags-fail {l} (inActive k h) = rw (no-flags (l .active) k h)
 tree-flags-fail {l} (inClosed h) = ap (λ (b : Bool). areFlags (l .active) && b) (no-flag (l .closed) h) ∙ and-false (areFlags (l .active))
 

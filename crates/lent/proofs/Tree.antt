@@ -24,11 +24,11 @@ use Rattle.tree_text.specs.Write.{bufferOf, told, writeVerdict, writtenNumber, 
 use Rattle.tree_text.specs.declared.Found.{Found}
 use Rattle.tree_text.specs.declared.Written.{Written}
 use Rattle.tree_text.specs.declared.Written.the-variants.{Length, NotWritten}
-use Rattle.lent.specs.Tree.{LentTree, ReadAs, TreeStartedTo, TreeSteppedTo, WrittenAs, lentTree, lentTreeOf, treeFlagsTest, treeOf, treeStepVerdict}
+use Rattle.lent.specs.Tree.{LentTree, ReadAs, TreeStartedTo, TreeSteppedTo, WrittenAs, lentTree, lentTreeOf, treeTruthsTest, treeOf, treeStepVerdict}
 
 -- flags are what their truths give back
-pub tree-back : (l : LentTree) → treeFlagsTest l ≡ true → lentTreeOf (treeOf l) ≡ l
-unfolding treeFlagsTest
+pub tree-back : (l : LentTree) → treeTruthsTest l ≡ true → lentTreeOf (treeOf l) ≡ l
+unfolding treeTruthsTest
 tree-back l f =
     let a = both (areFlags (l .active)) (isFlag (l .closed)) f in
     λ x. lentTree (l .n) (l .root) (flags-back (l .active) (a .0) x) (l .engager) (l .unacked) (l .transit) (l .acks) (l .sends)
@@ -58,12 +58,12 @@ by-step l kind i j number after w e t f =
       fields = f ∙ sym (ap (λ (v : Verdict). settle v (lentTreeOf (stepOf (treeOf l) kind i j .state)) l) e);
     }
 
-pub tree-step-unflagged : {l : LentTree} {kind i j number : ℕ} → treeFlagsTest l ≡ false → number ≡ 3 → TreeSteppedTo l kind i j number l
+pub tree-step-unflagged : {l : LentTree} {kind i j number : ℕ} → treeTruthsTest l ≡ false → number ≡ 3 → TreeSteppedTo l kind i j number l
 tree-step-unflagged {l} {kind} {i} {j} {number} f t = by-step l kind i j number l (Refused Unsound) (rw f) t refl
 
 pub tree-step-refused :
     {l : LentTree} {kind i j number : ℕ} (r : State) (a : Answer) {e : Refusal} → r ≡ treeOf l → a ≡ stepOf r kind i j
-    → treeFlagsTest l ≡ true → a .verdict ≡ Refused e → number ≡ codeOf (a .verdict) → TreeSteppedTo l kind i j number l
+    → treeTruthsTest l ≡ true → a .verdict ≡ Refused e → number ≡ codeOf (a .verdict) → TreeSteppedTo l kind i j number l
 tree-step-refused {l} {kind} {i} {j} {number} r a {e} p s f v t =
     by-step l kind i j number l (Refused e)
     (rw (f, ← p) (ap (λ (x : Answer). x .verdict) (sym s) ∙ v))
@@ -76,7 +76,7 @@ withRoot n root s = lentTree n root (s .active) (s .engager) (s .unacked) (s .tr
 
 pub tree-step-accepted :
     {l : LentTree} {kind i j : ℕ} (r : State) (a : Answer) (s : LentTree) → r ≡ treeOf l → a ≡ stepOf r kind i j
-    → treeFlagsTest l ≡ true → a .verdict ≡ Accepted → s ≡ lentTreeOf (a .state)
+    → treeTruthsTest l ≡ true → a .verdict ≡ Accepted → s ≡ lentTreeOf (a .state)
     → TreeSteppedTo l kind i j 0 (withRoot (l .n) (l .root) s)
 tree-step-accepted {l} {kind} {i} {j} r a s p q f v h =
     let e : a ≡ stepOf (treeOf l) kind i j = q ∙ ap (λ (x : State). stepOf x kind i j) p in
@@ -103,11 +103,11 @@ length-told Accepted k same = refl
 length-told (Refused e) k same = refl
 
 pub write-unflagged :
-    {l : LentTree} {buf : List ℕ} {number length : ℕ} → treeFlagsTest l ≡ false → number ≡ 3 → WrittenAs l buf number length length buf
+    {l : LentTree} {buf : List ℕ} {number length : ℕ} → treeTruthsTest l ≡ false → number ≡ 3 → WrittenAs l buf number length length buf
 write-unflagged f t = record { told = rw f t; long = rw f; bytes = rw f }
 
 pub write-flagged :
-    {l : LentTree} {buf buf′ : List ℕ} {number length length′ : ℕ} (w : Written) → treeFlagsTest l ≡ true
+    {l : LentTree} {buf buf′ : List ℕ} {number length length′ : ℕ} (w : Written) → treeTruthsTest l ≡ true
     → w ≡ writtenOf (treeOf l) buf
     → number ≡ writtenNumber w → length′ ≡ lengthBy w length → buf′ ≡ bufferOf (treeOf l) buf
     → WrittenAs l buf number length length′ buf′

@@ -46,8 +46,8 @@ lent n active color sent received pending at q black closed =
     }
 
 -- each byte that stands for a truth is 0 or 1, those of places from n on too
-unfoldable pub flagsTest : Lent → Bool
-flagsTest l = areFlags (l .active) && (isFlag (l .black) && isFlag (l .closed))
+unfoldable pub truthsTest : Lent → Bool
+truthsTest l = areFlags (l .active) && (isFlag (l .black) && isFlag (l .closed))
 
 -- the ring that lies there
 abbrev pub stateOf : Lent → State
@@ -97,12 +97,12 @@ pub record StartedTo (nodes : ℕ) (flags : List ℕ) (number : ℕ) (before aft
 -- ---- soundness: 1 where the ring is sound, else 0
 
 abbrev pub soundNumber : Lent → ℕ
-soundNumber l = byteOf (flagsTest l && soundTest (stateOf l))
+soundNumber l = byteOf (truthsTest l && soundTest (stateOf l))
 
 -- ---- a step: the number of its answer, and the fields afterwards
 
 abbrev pub stepVerdict : Lent → ℕ → ℕ → ℕ → Verdict
-stepVerdict l kind i j = cond (flagsTest l) (stepOf (stateOf l) kind i j .verdict) (Refused Unsound)
+stepVerdict l kind i j = cond (truthsTest l) (stepOf (stateOf l) kind i j .verdict) (Refused Unsound)
 
 abbrev pub stepNumber : Lent → ℕ → ℕ → ℕ → ℕ
 stepNumber l kind i j = codeOf (stepVerdict l kind i j)
@@ -117,7 +117,7 @@ pub record SteppedTo (l : Lent) (kind i j number : ℕ) (after : Lent) : Type 0 
 -- ---- the driver: the number of its reason, its moves, and the fields afterwards
 
 abbrev pub driveReason : Lent → ℕ → Reason
-driveReason l limit = cond (flagsTest l) (driveOf (stateOf l) limit .reason) (Stopped Unsound)
+driveReason l limit = cond (truthsTest l) (driveOf (stateOf l) limit .reason) (Stopped Unsound)
 
 abbrev pub driveVerdict : Lent → ℕ → Verdict
 driveVerdict l limit = reasonVerdict (driveReason l limit)

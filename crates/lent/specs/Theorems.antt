@@ -4,8 +4,8 @@ use lib.ListN.{getD}
 use mathlib.Core.Bool.{true}
 use mathlib.Core.List.{List}
 use mathlib.Core.Path.{_≡_}
-use Rattle.lent.specs.Ring.{DrivenTo, Lent, StartedTo, SteppedTo, flagsTest, lentOf, soundNumber, stateOf}
-use Rattle.lent.specs.Tree.{LentTree, ReadAs, TreeStartedTo, TreeSteppedTo, WrittenAs, lentTreeOf, treeFlagsTest, treeOf, treeSoundNumber}
+use Rattle.lent.specs.Ring.{DrivenTo, Lent, StartedTo, SteppedTo, truthsTest, lentOf, soundNumber, stateOf}
+use Rattle.lent.specs.Tree.{LentTree, ReadAs, TreeStartedTo, TreeSteppedTo, WrittenAs, lentTreeOf, treeTruthsTest, treeOf, treeSoundNumber}
 use Rattle.ring_rules.specs.State as ring
 use Rattle.tree_rules.specs.State as tree
 
@@ -55,10 +55,10 @@ pub record BytesJudged : Type 0 where
 -- the fields that a state is put into hold truths as bytes, and the very state; where each byte that stands for a truth is 0 or 1, the fields are
 -- those of the state that lies there
 pub record FieldsHold : Type 0 where
-  pub ring : (r : ring.State) → (flagsTest (lentOf r) ≡ true) × (stateOf (lentOf r) ≡ r)
-  pub ring-back : (l : Lent) → flagsTest l ≡ true → lentOf (stateOf l) ≡ l
-  pub tree : (t : tree.State) → (treeFlagsTest (lentTreeOf t) ≡ true) × (treeOf (lentTreeOf t) ≡ t)
-  pub tree-back : (l : LentTree) → treeFlagsTest l ≡ true → lentTreeOf (treeOf l) ≡ l
+  pub ring : (r : ring.State) → (truthsTest (lentOf r) ≡ true) × (stateOf (lentOf r) ≡ r)
+  pub ring-back : (l : Lent) → truthsTest l ≡ true → lentOf (stateOf l) ≡ l
+  pub tree : (t : tree.State) → (treeTruthsTest (lentTreeOf t) ≡ true) × (treeOf (lentTreeOf t) ≡ t)
+  pub tree-back : (l : LentTree) → treeTruthsTest l ≡ true → lentTreeOf (treeOf l) ≡ l
 
 -- "Every start and accepted step gives a sound state": its fields are told as sound; so are those that a driver which was not refused leaves
 pub record SoundLeft : Type 0 where

@@ -44,8 +44,8 @@ lentTree n root active engager unacked transit acks sends closed =
     }
 
 -- each byte that stands for a truth is 0 or 1, those of places from n on too
-unfoldable pub treeFlagsTest : LentTree → Bool
-treeFlagsTest l = areFlags (l .active) && isFlag (l .closed)
+unfoldable pub treeTruthsTest : LentTree → Bool
+treeTruthsTest l = areFlags (l .active) && isFlag (l .closed)
 
 -- the tree that lies there
 abbrev pub treeOf : LentTree → State
@@ -93,12 +93,12 @@ pub record TreeStartedTo (nodes at number : ℕ) (before after : LentTree) : Typ
 -- ---- soundness: 1 where the tree is sound, else 0
 
 abbrev pub treeSoundNumber : LentTree → ℕ
-treeSoundNumber l = byteOf (treeFlagsTest l && soundTest (treeOf l))
+treeSoundNumber l = byteOf (treeTruthsTest l && soundTest (treeOf l))
 
 -- ---- a step: the number of its answer, and the fields afterwards
 
 abbrev pub treeStepVerdict : LentTree → ℕ → ℕ → ℕ → Verdict
-treeStepVerdict l kind i j = cond (treeFlagsTest l) (stepOf (treeOf l) kind i j .verdict) (Refused Unsound)
+treeStepVerdict l kind i j = cond (treeTruthsTest l) (stepOf (treeOf l) kind i j .verdict) (Refused Unsound)
 
 abbrev pub treeStepNumber : LentTree → ℕ → ℕ → ℕ → ℕ
 treeStepNumber l kind i j = codeOf (treeStepVerdict l kind i j)
@@ -113,7 +113,7 @@ pub record TreeSteppedTo (l : LentTree) (kind i j number : ℕ) (after : LentTre
 -- ---- the text of a tree written: the number of the answer, the length, and the buffer afterwards
 
 abbrev pub writeVerdict : LentTree → List ℕ → Verdict
-writeVerdict l buf = cond (treeFlagsTest l) (text.writeVerdict (treeOf l) buf) (Refused Unsound)
+writeVerdict l buf = cond (treeTruthsTest l) (text.writeVerdict (treeOf l) buf) (Refused Unsound)
 
 abbrev pub writeNumber : LentTree → List ℕ → ℕ
 writeNumber l buf = codeOf (writeVerdict l buf)

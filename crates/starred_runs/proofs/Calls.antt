@@ -4,8 +4,8 @@ use mathlib.Core.Path.{_≡_, refl}
 use Rattle.color.specs.Colors.{blackened, isBlack, whitened}
 use Rattle.decimal.specs.Number.{checked, numberAt, scanOf}
 use Rattle.decimal.specs.Text.{decimal, digits, put}
-use Rattle.lent.specs.Ring.{flagsTest}
-use Rattle.lent.specs.Tree.{treeFlagsTest}
+use Rattle.lent.specs.Ring.{truthsTest}
+use Rattle.lent.specs.Tree.{treeTruthsTest}
 use Rattle.flag_bytes.specs.Flags.{areFlags, bytesOf, flagsOf}
 use Rattle.laws.specs.Sums.{countTo, sumTo}
 use Rattle.ring_rules.specs.Driver.{driveFrom, driveOf, mayMove, moveOf}
@@ -31,5 +31,5 @@ use Rattle.starred_runs.specs.TableLent as lent
 use Rattle.starred_runs.specs.TableLentTrees as lentTree
 
 pub calls-pass : allPass calls ≡ true
-unfolding calls lent.starts lent.steps lent.soundness lent.drives lent.flags lentTree.starts lentTree.steps lentTree.soundness lentTree.not-sound lentTree.texts passes allPass flagsTest treeFlagsTest areFlags bytesOf flagsOf put isBlack blackened whitened _⊖_ isPositive isZero isSame sumTo countTo ringRules.conclusive ringSound.shapeTest ringSound.rangeTest flowTest sumTest passiveAbove whiteTo gatheredTest safraTest unusedTest ringSound.closedTest ringSound.soundTest mayProbe mayPass ring.verdictOf ring.answerOf mayMove moveOf driveFrom driveOf ringStart.activeFrom ringStart.colorFrom ringStart.flagsTest ringStart.firstState ringStart.blank ringStart.startVerdict ringStart.startOf messagesFrom children climb treeRules.conclusive treeSound.shapeTest treeSound.rangeTest engagerTest chainTest balanceTest restTest pairTest placeTest limitTest treeSound.closedTest treeSound.soundTest treeRules.mayLeave treeAnswers.verdictOf treeAnswers.answerOf treeStart.firstState treeStart.blank treeStart.startVerdict treeStart.startOf decimal digits childrenText nodeText writeVerdict scanOf checked numberAt andThen entered closed bodyOf nodeBy listOf nodeOf readOf
+unfolding calls lent.starts lent.steps lent.soundness lent.drives lent.flags lentTree.starts lentTree.steps lentTree.soundness lentTree.not-sound lentTree.texts passes allPass truthsTest treeTruthsTest areFlags bytesOf flagsOf put isBlack blackened whitened _⊖_ isPositive isZero isSame sumTo countTo ringRules.conclusive ringSound.shapeTest ringSound.rangeTest flowTest sumTest passiveAbove whiteTo gatheredTest safraTest unusedTest ringSound.closedTest ringSound.soundTest mayProbe mayPass ring.verdictOf ring.answerOf mayMove moveOf driveFrom driveOf ringStart.activeFrom ringStart.colorFrom ringStart.flagsTest ringStart.firstState ringStart.blank ringStart.startVerdict ringStart.startOf messagesFrom children climb treeRules.conclusive treeSound.shapeTest treeSound.rangeTest engagerTest chainTest balanceTest restTest pairTest placeTest limitTest treeSound.closedTest treeSound.soundTest treeRules.mayLeave treeAnswers.verdictOf treeAnswers.answerOf treeStart.firstState treeStart.blank treeStart.startVerdict treeStart.startOf decimal digits childrenText nodeText writeVerdict scanOf checked numberAt andThen entered closed bodyOf nodeBy listOf nodeOf readOf
 calls-pass = refl

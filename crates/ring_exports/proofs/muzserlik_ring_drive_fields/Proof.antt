@@ -5,7 +5,7 @@ use mir.Syntax.{w64}
 use mir.Val.{SFits}
 use Rattle.laws.proofs.Tests.{told-false, told-true}
 use Rattle.ring.specs.View.{driven, state}
-use Rattle.lent.specs.Ring.{flagsTest}
+use Rattle.lent.specs.Ring.{truthsTest}
 use Rattle.lent.proofs.Ring.{drive-accepted, drive-refused, drive-unflagged, limit-same}
 use Rattle.ring_exports.proofs.muzserlik_ring_drive_fields.Statement.{statement}
 use Rattle.ring_exports.proofs.muzserlik_ring_drive_fields.Tie as tie
@@ -17,7 +17,7 @@ number-requires : tie.Need-number-requires
 number-requires c κs = tt
 
 returns : tie.Need-returns
-unfolding flagsTest
+unfolding truthsTest
 returns c = drive-unflagged (told-false (c .before .before .are-flags .ensures) (c .before .if1 .taken)) (c .number .ensures)
 
 gathered-requires : tie.Need-gathered-requires
@@ -42,7 +42,7 @@ code-requires : tie.Need-code-requires
 code-requires c κs = tt
 
 returns-2 : tie.Need-returns-2
-unfolding flagsTest
+unfolding truthsTest
 returns-2 c =
     let at-verdict = c .before .before .before in
     let at-drive = at-verdict .before in
@@ -67,7 +67,7 @@ reason-number-requires c κs = tt
 
 -- q is the eighth of the fields that `struct-told` tells of
 returns-3 : tie.Need-returns-3
-unfolding flagsTest
+unfolding truthsTest
 returns-3 c =
     let at-accepted = c .before .before .before .before .before in
     let at-verdict = at-accepted .before .before in

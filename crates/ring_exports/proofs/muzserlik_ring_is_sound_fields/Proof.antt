@@ -6,7 +6,7 @@ use mir.Syntax.{w64}
 use mir.Val.{SFits}
 use Rattle.flag_bytes.specs.Flags.{byteOf}
 use Rattle.ring_rules.specs.Soundness.{soundTest}
-use Rattle.lent.specs.Ring.{flagsTest}
+use Rattle.lent.specs.Ring.{truthsTest}
 use Rattle.ring_exports.proofs.muzserlik_ring_is_sound_fields.Statement.{statement}
 use Rattle.ring_exports.proofs.muzserlik_ring_is_sound_fields.Tie as tie
 
@@ -23,7 +23,7 @@ byte-requires : tie.Need-byte-requires
 byte-requires c κs = tt
 
 returns : tie.Need-returns
-unfolding flagsTest
+unfolding truthsTest
 returns c =
     let at-flags = c .before .before .before .before .before .before .before .before in
     let start = at-flags .before .before in

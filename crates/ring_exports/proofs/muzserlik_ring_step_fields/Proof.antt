@@ -5,7 +5,7 @@ use mir.Syntax.{w64}
 use mir.Val.{SFits}
 use Rattle.laws.proofs.Tests.{told-false, told-true}
 use Rattle.lent.proofs.Ring.{kind-same, step-accepted, step-refused, step-unflagged}
-use Rattle.lent.specs.Ring.{flagsTest}
+use Rattle.lent.specs.Ring.{truthsTest}
 use Rattle.ring.specs.View.{answer, state}
 use Rattle.ring_exports.proofs.muzserlik_ring_step_fields.Statement.{statement}
 use Rattle.ring_exports.proofs.muzserlik_ring_step_fields.Tie as tie
@@ -17,7 +17,7 @@ number-requires : tie.Need-number-requires
 number-requires c κs = tt
 
 returns : tie.Need-returns
-unfolding flagsTest
+unfolding truthsTest
 returns c = step-unflagged (told-false (c .before .before .are-flags .ensures) (c .before .if1 .taken)) (c .number .ensures)
 
 gathered-requires : tie.Need-gathered-requires
@@ -39,7 +39,7 @@ code-requires : tie.Need-code-requires
 code-requires c κs = tt
 
 returns-2 : tie.Need-returns-2
-unfolding flagsTest
+unfolding truthsTest
 returns-2 c =
     let at-step = c .before .before .before in
     let at-kind = at-step .before in
@@ -58,7 +58,7 @@ scatter-requires : tie.Need-scatter-requires
 scatter-requires c κs = tt
 
 returns-3 : tie.Need-returns-3
-unfolding flagsTest
+unfolding truthsTest
 returns-3 c =
     let at-accepted = c .before .before .before .before .before .before .before .before .before .before .before in
     let at-step = at-accepted .before .before in

@@ -2,7 +2,7 @@ use mathlib.Core.Bool.{_&&_}
 use mathlib.Core.Path.{_∙_, _≡_, ap}
 use Rattle.flag_bytes.specs.Flags.{byteOf}
 use Rattle.tree_rules.specs.Soundness.{soundTest}
-use Rattle.lent.specs.Tree.{treeFlagsTest}
+use Rattle.lent.specs.Tree.{treeTruthsTest}
 use Rattle.tree_exports.proofs.muzserlik_tree_is_sound_fields.Statement.{statement}
 use Rattle.tree_exports.proofs.muzserlik_tree_is_sound_fields.Tie as tie
 
@@ -19,7 +19,7 @@ byte-requires : tie.Need-byte-requires
 byte-requires c κs = tt
 
 returns : tie.Need-returns
-unfolding treeFlagsTest
+unfolding treeTruthsTest
 returns c =
     let at-flags = c .before .before .before .before .before .before .before .before in
     let told : c .byte .result ≡ byteOf (at-flags .are-flags .result && c .before .is-sound .result) = c .byte .ensures in

@@ -2,7 +2,7 @@ use borrow.Author.Needs.{needs}
 use mathlib.Core.Path.{_∙_}
 use Rattle.laws.proofs.Tests.{told-false, told-true}
 use Rattle.lent.proofs.Tree.{tree-kind-same, tree-step-accepted, tree-step-refused, tree-step-unflagged}
-use Rattle.lent.specs.Tree.{treeFlagsTest}
+use Rattle.lent.specs.Tree.{treeTruthsTest}
 use Rattle.tree.specs.View.{answer, state}
 use Rattle.tree_exports.proofs.muzserlik_tree_step_fields.Statement.{statement}
 use Rattle.tree_exports.proofs.muzserlik_tree_step_fields.Tie as tie
@@ -14,7 +14,7 @@ number-requires : tie.Need-number-requires
 number-requires c κs = tt
 
 returns : tie.Need-returns
-unfolding treeFlagsTest
+unfolding treeTruthsTest
 returns c = tree-step-unflagged (told-false (c .before .before .are-flags .ensures) (c .before .if1 .taken)) (c .number .ensures)
 
 gathered-requires : tie.Need-gathered-requires
@@ -36,7 +36,7 @@ code-requires : tie.Need-code-requires
 code-requires c κs = tt
 
 returns-2 : tie.Need-returns-2
-unfolding treeFlagsTest
+unfolding treeTruthsTest
 returns-2 c =
     let at-step = c .before .before .before in
     let at-kind = at-step .before in
@@ -54,7 +54,7 @@ scatter-requires : tie.Need-scatter-requires
 scatter-requires c κs = tt
 
 returns-3 : tie.Need-returns-3
-unfolding treeFlagsTest
+unfolding treeTruthsTest
 returns-3 c =
     let at-accepted = c .before .before .before .before .before .before .before .before .before in
     let at-step = at-accepted .before .before in

@@ -1,7 +1,7 @@
 use borrow.Author.Needs.{needs}
 use mathlib.Core.Path.{_∙_}
 use Rattle.laws.proofs.Tests.{told-false, told-true}
-use Rattle.lent.specs.Tree.{treeFlagsTest}
+use Rattle.lent.specs.Tree.{treeTruthsTest}
 use Rattle.lent.proofs.Tree.{write-flagged, write-unflagged}
 use Rattle.tree_exports.proofs.muzserlik_tree_write_fields.Statement.{statement}
 use Rattle.tree_exports.proofs.muzserlik_tree_write_fields.Tie as tie
@@ -13,7 +13,7 @@ number-requires : tie.Need-number-requires
 number-requires c κs = tt
 
 returns : tie.Need-returns
-unfolding treeFlagsTest
+unfolding treeTruthsTest
 returns c = write-unflagged (told-false (c .before .before .are-flags .ensures) (c .before .if1 .taken)) (c .number .ensures)
 
 gathered-requires : tie.Need-gathered-requires
@@ -35,7 +35,7 @@ same-length : tie.Need-same-length
 same-length c = search needs
 
 returns-2 : tie.Need-returns-2
-unfolding treeFlagsTest
+unfolding treeTruthsTest
 returns-2 c =
     let at-write = c .before .before .before .before .before in
     let at-gathered = at-write .before .before in
@@ -51,7 +51,7 @@ same-length-2 : tie.Need-same-length-2
 same-length-2 c = search needs
 
 returns-3 : tie.Need-returns-3
-unfolding treeFlagsTest
+unfolding treeTruthsTest
 returns-3 c =
     let at-write = c .before .before .before .before .before in
     let at-gathered = at-write .before .before in
