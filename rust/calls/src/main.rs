@@ -10,6 +10,7 @@ mod lent;
 mod proved;
 mod requests;
 mod rings;
+mod same;
 mod texts;
 mod trees;
 

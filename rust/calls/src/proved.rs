@@ -289,5 +289,7 @@ pub fn write(tree: &mut LentTree, buffer: &mut [u8], length: &mut usize) -> u8 {
 
 /// The number of the reader's answer, 0 where the text is a tree's; its engagers and root are then given.
 pub fn read(n: usize, text: &mut [u8], engager: &mut [u8; 16], root: &mut usize) -> u8 {
-    unsafe { muzserlik_tree_read_fields(n, text.as_mut_ptr(), text.len(), engager.as_mut_ptr(), root) }
+    unsafe {
+        muzserlik_tree_read_fields(n, text.as_mut_ptr(), text.len(), engager.as_mut_ptr(), root)
+    }
 }

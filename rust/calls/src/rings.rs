@@ -3,6 +3,7 @@
 use crate::answers::Answers;
 use crate::lent::LentRing;
 use crate::requests::{request, Course};
+use crate::same::{same_soundness, same_start, same_step};
 use crate::{fail, proved, LEAST, LEAST_ANNOUNCED, LEAST_BROKEN, STARTS, STEPS};
 use second::generate::Rng;
 use second::refusal::Refusal;
@@ -60,7 +61,17 @@ impl Rings {
 
     fn start(&mut self, random: &mut Rng) {
         let (nodes, flags) = flags(random);
-        let told = same_start(self.seed, nodes, &flags, random);
+        let mut lent = flags.clone();
+        let told = same_start(
+            self.seed,
+            &format!("a start of {nodes} with {flags:?}"),
+            LentRing::noise(random),
+            Ring::start(nodes, &flags),
+            |ring| proved::ring_start(nodes, &mut lent, ring),
+        );
+        if lent != flags {
+            fail(self.seed, &format!("a start of {nodes} wrote to {flags:?}"));
+        }
         self.starts.count(told);
     }
 
@@ -243,54 +254,6 @@ pub fn same_calls(seed: u64, ring: &LentRing, request: Request, random: &mut Rng
     same_soundness(seed, ring);
     same_step(seed, ring, request);
     same_drive(seed, ring, random.below(12), random);
-}
-
-/// A start into noise, which a refusal leaves.
-fn same_start(seed: u64, nodes: usize, flags: &[u8], random: &mut Rng) -> u8 {
-    let noise = LentRing::noise(random);
-    let (expected, ours) = match Ring::start(nodes, flags) {
-        Ok(ring) => (0, LentRing::of(&ring)),
-        Err(refusal) => (refusal.number() as u8, noise.clone()),
-    };
-    let (mut theirs, mut lent) = (noise, flags.to_vec());
-    let told = proved::ring_start(nodes, &mut lent, &mut theirs);
-    if (told, &theirs, &lent[..]) != (expected, &ours, flags) {
-        fail(
-            seed,
-            &format!("a start of {nodes} with {flags:?} told {told}, expected {expected}"),
-        );
-    }
-    told
-}
-
-/// The second implementation's answer; a byte that is no truth is an unsound state.
-fn same_step(seed: u64, ring: &LentRing, request: Request) -> u8 {
-    let (expected, ours) = match ring.ring() {
-        None => (Refusal::Unsound.number(), ring.clone()),
-        Some(mut next) => {
-            let told = next.step(request).map_or_else(Refusal::number, |()| 0);
-            (told, LentRing::of(&next))
-        }
-    };
-    let mut theirs = ring.clone();
-    let told = proved::step(&mut theirs, request);
-    if (u32::from(told), &theirs) != (expected, &ours) {
-        fail(
-            seed,
-            &format!("{request:?} told {told}, expected {expected}, of {ring:?}"),
-        );
-    }
-    told
-}
-
-fn same_soundness(seed: u64, ring: &LentRing) -> u8 {
-    let expected = ring.ring().is_some_and(|ring| ring.is_sound());
-    let mut theirs = ring.clone();
-    let told = proved::is_sound(&mut theirs);
-    if (told, &theirs) != (u8::from(expected), ring) {
-        fail(seed, &format!("soundness of {ring:?}"));
-    }
-    told
 }
 
 fn same_drive(seed: u64, ring: &LentRing, limit: usize, random: &mut Rng) -> u8 {

@@ -3,9 +3,9 @@
 use crate::answers::Answers;
 use crate::lent::LentTree;
 use crate::requests::{request, Course};
-use crate::{fail, proved, LEAST_ANNOUNCED, LEAST_BROKEN, STARTS, STEPS};
+use crate::same::{same_soundness, same_start, same_step};
+use crate::{proved, LEAST_ANNOUNCED, LEAST_BROKEN, STARTS, STEPS};
 use second::generate::Rng;
-use second::refusal::Refusal;
 use second::report::Report;
 use second::request::{Request, SEND_LIMIT};
 use second::tree::{Tree, MAX_NODES, NONE};
@@ -63,8 +63,14 @@ impl Trees {
             0 => random.pick(&[nodes, MAX_NODES, 1 << 8, 1 << 32, usize::MAX]),
             _ => random.below(nodes.clamp(1, MAX_NODES)),
         };
-        self.starts
-            .count(same_start(self.seed, nodes, root, random));
+        let told = same_start(
+            self.seed,
+            &format!("a start of {nodes} with root {root}"),
+            LentTree::noise(random),
+            Tree::start(nodes, root),
+            |tree| proved::tree_start(nodes, root, tree),
+        );
+        self.starts.count(told);
     }
 
     /// A run, each step compared, and now and then a wild state.
@@ -162,52 +168,4 @@ fn balanced(tree: &Tree, random: &mut Rng) -> Tree {
 pub fn same_calls(seed: u64, tree: &LentTree, request: Request) {
     same_soundness(seed, tree);
     same_step(seed, tree, request);
-}
-
-/// A start into noise, which a refusal leaves.
-fn same_start(seed: u64, nodes: usize, root: usize, random: &mut Rng) -> u8 {
-    let noise = LentTree::noise(random);
-    let (expected, ours) = match Tree::start(nodes, root) {
-        Ok(tree) => (0, LentTree::of(&tree)),
-        Err(refusal) => (refusal.number() as u8, noise.clone()),
-    };
-    let mut theirs = noise;
-    let told = proved::tree_start(nodes, root, &mut theirs);
-    if (told, &theirs) != (expected, &ours) {
-        fail(
-            seed,
-            &format!("a start of {nodes} with root {root} told {told}, expected {expected}"),
-        );
-    }
-    told
-}
-
-/// The second implementation's answer; a byte that is no truth is an unsound state.
-fn same_step(seed: u64, tree: &LentTree, request: Request) -> u8 {
-    let (expected, ours) = match tree.tree() {
-        None => (Refusal::Unsound.number(), tree.clone()),
-        Some(mut next) => {
-            let told = next.step(request).map_or_else(Refusal::number, |()| 0);
-            (told, LentTree::of(&next))
-        }
-    };
-    let mut theirs = tree.clone();
-    let told = proved::tree_step(&mut theirs, request);
-    if (u32::from(told), &theirs) != (expected, &ours) {
-        fail(
-            seed,
-            &format!("{request:?} told {told}, expected {expected}, of {tree:?}"),
-        );
-    }
-    told
-}
-
-fn same_soundness(seed: u64, tree: &LentTree) -> u8 {
-    let expected = tree.tree().is_some_and(|tree| tree.is_sound());
-    let mut theirs = tree.clone();
-    let told = proved::tree_is_sound(&mut theirs);
-    if (told, &theirs) != (u8::from(expected), tree) {
-        fail(seed, &format!("soundness of {tree:?}"));
-    }
-    told
 }
