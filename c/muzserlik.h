@@ -2,14 +2,16 @@
  * Muzserlik: a proved termination detector. A ring of up to 96 nodes by Safra's rules (EWD998), a tree of up to 16 nodes by those of
  * Dijkstra and Scholten.
  *
- * Link with libmuzserlik.a, which c/archive makes, on x86-64 Linux. Every function is proved to meet its contract; the contracts are in
- * crates/ring_exports/src and crates/tree_exports/src. The inline functions of this header only hand the fields of a struct on, one by one.
+ * Link with libmuzserlik.a, which c/archive makes, on x86-64 Linux. Every function of the archive is proved to meet its contract; the contracts
+ * are in crates/ring_exports/src and crates/tree_exports/src. The inline functions of this header are tested only: they hand the fields of a
+ * struct on, one by one, and put a pointer of their own where a length is 0.
  *
  * A call
  *   - is answered with a number: 0 if it is accepted, else the number of the first check that it fails (enum muzserlik_answer). The driver
  *     answers with 100, 101 or 102, or with a refusal. Soundness is answered with 1 or 0;
- *   - that is refused leaves every byte that it was lent as it was. What it was lent to be written to is written only if it is accepted;
- *   - judges whatever a struct holds: one that no start and no accepted step made is told from a sound one, and refused with 3;
+ *   - that is refused leaves every byte that it was lent as it was;
+ *   - judges whatever a struct holds: one that is not sound is refused with 3. One that was filled or changed by hand may happen to be sound, and is
+ *     then taken as it is: let only these calls change a struct;
  *   - keeps nothing: what it is lent, it is lent until it returns. There is no state but the structs, so calls on different structs may run
  *     at the same time in different threads, calls on the same struct may not.
  *
@@ -21,7 +23,10 @@
  *   - nobody else writes to what is lent before the call returns.
  * Where this is not so no call can tell, and nothing is promised.
  *
- * Numbers are size_t, so that no number is cut down on its way in: a kind of 257 is an unknown kind, and -1 is no node.
+ * Nodes, kinds, counts and limits are size_t, so that none is cut down on its way in: a kind of 257 is an unknown kind, and -1 is no node. A struct
+ * may be copied by assignment. It has padding: memcmp does not compare two rings or two trees.
+ *
+ * The archive needs memcpy and memset, and nothing else; it has no data of its own that is written to.
  */
 #ifndef MUZSERLIK_H
 #define MUZSERLIK_H
@@ -62,7 +67,7 @@ enum muzserlik_answer {
     MUZSERLIK_REFUSED_CLOSED = 4,
     /* a step's kind is outside 1 to 6 */
     MUZSERLIK_REFUSED_UNKNOWN_KIND = 5,
-    /* a node number that is used is n or more */
+    /* a node number that is used is n or more; in reading, one in the text */
     MUZSERLIK_REFUSED_UNKNOWN_NODE = 6,
     /* a send from a node to itself */
     MUZSERLIK_REFUSED_SELF_MESSAGE = 7,
@@ -70,26 +75,51 @@ enum muzserlik_answer {
     MUZSERLIK_REFUSED_RULE_FAILS = 8,
     /* a send after 1,000,000 accepted ones */
     MUZSERLIK_REFUSED_SEND_LIMIT = 9,
-    /* reading: the text is not a tree's */
+    /* reading: the text is not a tree's, by another fault than a number of n or more */
     MUZSERLIK_REFUSED_NOT_A_FORM = 10,
     /* the driver's limit is above 1,000 */
     MUZSERLIK_REFUSED_MOVE_LIMIT = 11,
     /* writing: the buffer is shorter than the text */
     MUZSERLIK_REFUSED_SHORT_BUFFER = 12,
-    /* the driver stopped: the announce test holds; no token move is allowed; it made as many moves as it was allowed */
+    /* the driver stopped: the announce test holds; no token move is allowed; it made as many moves as it was allowed. Never 0 */
     MUZSERLIK_CONCLUSIVE = 100,
     MUZSERLIK_WAITING = 101,
     MUZSERLIK_SPENT = 102
 };
 
-/* The kinds of a step. Which numbers it uses: of the ring in the comment's first form, of the tree in the second. */
+/*
+ * The kinds of a step. PROBE and ACK, PASS and LEAVE are the same numbers: the first are the ring's, the second the tree's. Numbers that a kind
+ * does not use are not read. The rule that has to hold, else 8, and what becomes of the state:
+ *
+ *   a ring; the counter of a node is what it sent less what it received
+ *   SEND i j   i is active: one more message is on its way to j
+ *   TAKE i     a message is on its way to i: i receives it, and becomes active and black
+ *   IDLE i     i is active: it becomes passive
+ *   PROBE      node 0 has the token; the token is black, or node 0 is, or q plus the counter of node 0 is above 0: the token goes to node n - 1,
+ *              white, with the sum 0, and node 0 becomes white
+ *   PASS i     i is above 0, has the token and is passive: the token goes to i - 1, its sum gains the counter of i, it becomes black if i is, and
+ *              i becomes white
+ *   ANNOUNCE   the announce test: node 0 has the token, both are white, q plus the counter of node 0 is 0, node 0 is passive and no message is on its
+ *              way to it. Then every node is passive and no message is in transit (proved); the run is closed
+ *
+ *   a tree
+ *   SEND i j   i is active: one more message is on its way from i to j, and one more of i is not acknowledged
+ *   TAKE i j   a message from j is on its way to i: i receives it and becomes active. If i was not engaged, j is its engager; else an
+ *              acknowledgement sets out to j
+ *   IDLE i     i is active: it becomes passive
+ *   ACK i      an acknowledgement is on its way to i: i receives it, and one less of i is not acknowledged
+ *   LEAVE i    i is not the root, is engaged and passive, and all that it sent is acknowledged: an acknowledgement sets out to its engager, and i is
+ *              no longer engaged
+ *   ANNOUNCE   the root is passive, and all that it sent is acknowledged. Then every node is passive and no message is in transit (proved); the run is
+ *              closed
+ */
 enum muzserlik_kind {
-    MUZSERLIK_SEND = 1,     /* send i j: i sends j a message                 | the same */
-    MUZSERLIK_TAKE = 2,     /* take i: i receives a message                  | take i j: i receives a message from j */
-    MUZSERLIK_IDLE = 3,     /* idle i: i becomes passive                     | the same */
-    MUZSERLIK_PROBE = 4,    /* probe: node 0 sends the token round           | ack i: i receives an acknowledgement */
-    MUZSERLIK_PASS = 5,     /* pass i: i passes the token on                 | leave i: i is no longer engaged */
-    MUZSERLIK_ANNOUNCE = 6, /* announce: every node is passive and no message is in transit, and the run is closed | the same */
+    MUZSERLIK_SEND = 1,
+    MUZSERLIK_TAKE = 2,
+    MUZSERLIK_IDLE = 3,
+    MUZSERLIK_PROBE = 4,
+    MUZSERLIK_PASS = 5,
+    MUZSERLIK_ANNOUNCE = 6,
     MUZSERLIK_ACK = 4,
     MUZSERLIK_LEAVE = 5
 };
@@ -173,8 +203,8 @@ static inline int muzserlik_ring_is_sound(const struct muzserlik_ring *ring)
 }
 
 /*
- * Moves the token until the announce test holds (100), no move is allowed (101) or `limit` moves are made (102); `moves` is then how many it
- * made. 3, 4 or 11: refused, ring and `moves` as they were. It never announces: that is a step. A ring with every node passive and no message
+ * Moves the token by probes and passes. Before each move, in this order: the announce test holds (100: announce), no move is allowed (101: the node
+ * that has the token is active; go on once it is passive), `limit` moves are made (102: call again); `moves` is then how many it made. 3, 4 or 11: refused, ring and `moves` as they were. It never announces: that is a step. A ring with every node passive and no message
  * in transit needs at most 3n - 2 moves.
  */
 static inline int muzserlik_ring_drive(struct muzserlik_ring *ring, size_t limit, uint32_t *moves)
@@ -219,7 +249,9 @@ static inline int muzserlik_tree_write(const struct muzserlik_tree *tree, uint8_
 
 /*
  * Reads the text of a tree of n nodes, `length` bytes and no more: the engagers, 16 where a node is not engaged, and the root.
- * 0; 1, 6 or 10 with `engager` and `root` as they were. A text says nothing of messages: it does not make a tree to go on with.
+ * 0; 1, 6 or 10 with `engager` and `root` as they were. 1 comes first; then the first fault from the left decides: where a number belongs, one of n or
+ * more, of whatever length, is 6; anything else, such as a leading zero, a node twice, children that do not ascend, other spacing, bytes after the
+ * last bracket, is 10. A text says nothing of messages: it does not make a tree to go on with.
  */
 static inline int muzserlik_tree_read(size_t n, const uint8_t *text, size_t length, uint8_t engager[MUZSERLIK_TREE_NODES], size_t *root)
 {

@@ -6,7 +6,7 @@ use crate::repository::{crates, files, read, top};
 use std::collections::BTreeSet;
 
 /// What stands in code spans and is not declared by a crate: tools, types and words of the languages, words of a log's end line.
-const WORDS: [&str; 15] = [
+const WORDS: [&str; 17] = [
     "ar",
     "boards",
     "cargo",
@@ -14,6 +14,8 @@ const WORDS: [&str; 15] = [
     "compare",
     "ensures",
     "flight",
+    "memcpy",
+    "memset",
     "muzserlik_.._fields",
     "proofs/",
     "requires",
