@@ -1,4 +1,5 @@
 pub mod Ring
 pub mod Tree
 pub mod Sound
+pub mod Calls
 pub mod Theorems

@@ -94,7 +94,7 @@ abbrev pub lengthBy : Written → ℕ → ℕ
 lengthBy (Length k) same = k
 lengthBy (NotWritten e) same = same
 
-number-told : (v : Verdict) (k : ℕ) → writtenNumber (told v k) ≡ codeOf v
+pub number-told : (v : Verdict) (k : ℕ) → writtenNumber (told v k) ≡ codeOf v
 number-told Accepted k = refl
 number-told (Refused e) k = refl
 

@@ -4,9 +4,20 @@ use lib.ListN.{getD}
 use mathlib.Core.Bool.{true}
 use mathlib.Core.List.{List}
 use mathlib.Core.Path.{_≡_}
+use Rattle.flag_bytes.specs.Flags.{byteOf}
+use Rattle.refusal.specs.Table.{codeOf, settle}
+use Rattle.ring_rules.specs.Driver.{driveOf, reasonNumber, reasonVerdict}
+use Rattle.tree_text.specs.Read.{readOf}
+use Rattle.tree_text.specs.Write.{bufferOf, writtenNumber, writtenOf}
 use Rattle.lent.specs.Ring.{DrivenTo, Lent, StartedTo, SteppedTo, truthsTest, lentOf, soundNumber, stateOf}
 use Rattle.lent.specs.Tree.{LentTree, ReadAs, TreeStartedTo, TreeSteppedTo, WrittenAs, lentTreeOf, treeTruthsTest, treeOf, treeSoundNumber}
+use Rattle.ring_rules.specs.Answers as ringAnswers
+use Rattle.ring_rules.specs.Soundness as ringSound
+use Rattle.ring_rules.specs.Start as ringStart
 use Rattle.ring_rules.specs.State as ring
+use Rattle.tree_rules.specs.Answers as treeAnswers
+use Rattle.tree_rules.specs.Soundness as treeSound
+use Rattle.tree_rules.specs.Start as treeStart
 use Rattle.tree_rules.specs.State as tree
 
 -- "A refusal gives its number and the state handed in; no byte of a lent buffer differs": each number but 0, of the driver each below 100,
@@ -69,3 +80,33 @@ pub record SoundLeft : Type 0 where
       → soundNumber after ≡ 1
   pub tree-start : {nodes at : ℕ} {before after : LentTree} → TreeStartedTo nodes at 0 before after → treeSoundNumber after ≡ 1
   pub tree-step : {l after : LentTree} {kind i j : ℕ} → TreeSteppedTo l kind i j 0 after → treeSoundNumber after ≡ 1
+
+-- each call is the operation by value, of the state that is lent and of the very numbers that are handed in, whatever their size
+pub record CallsAnswer : Type 0 where
+  pub start :
+      {nodes number : ℕ} {flags : List ℕ} {before after : Lent} → StartedTo nodes flags number before after
+      → (number ≡ codeOf (ringStart.startOf nodes flags .verdict))
+      × (after ≡ settle (ringStart.startOf nodes flags .verdict) (lentOf (ringStart.startOf nodes flags .state)) before)
+  pub step :
+      (r : ring.State) {kind i j number : ℕ} {after : Lent} → SteppedTo (lentOf r) kind i j number after
+      → (number ≡ codeOf (ringAnswers.stepOf r kind i j .verdict)) × (after ≡ lentOf (ringAnswers.stepOf r kind i j .state))
+  pub sound : (r : ring.State) → soundNumber (lentOf r) ≡ byteOf (ringSound.soundTest r)
+  pub drive :
+      (r : ring.State) {limit number moves moves′ : ℕ} {after : Lent} → DrivenTo (lentOf r) limit number moves moves′ after
+      → (number ≡ reasonNumber (driveOf r limit .reason)) × (after ≡ lentOf (driveOf r limit .state))
+      × (moves′ ≡ settle (reasonVerdict (driveOf r limit .reason)) (driveOf r limit .moves) moves)
+  pub tree-start :
+      {nodes at number : ℕ} {before after : LentTree} → TreeStartedTo nodes at number before after
+      → (number ≡ codeOf (treeStart.startOf nodes at .verdict))
+      × (after ≡ settle (treeStart.startOf nodes at .verdict) (lentTreeOf (treeStart.startOf nodes at .state)) before)
+  pub tree-step :
+      (t : tree.State) {kind i j number : ℕ} {after : LentTree} → TreeSteppedTo (lentTreeOf t) kind i j number after
+      → (number ≡ codeOf (treeAnswers.stepOf t kind i j .verdict)) × (after ≡ lentTreeOf (treeAnswers.stepOf t kind i j .state))
+  pub tree-sound : (t : tree.State) → treeSoundNumber (lentTreeOf t) ≡ byteOf (treeSound.soundTest t)
+  pub write :
+      (t : tree.State) {buf buf′ : List ℕ} {number length length′ : ℕ} → WrittenAs (lentTreeOf t) buf number length length′ buf′
+      → (number ≡ writtenNumber (writtenOf t buf)) × (buf′ ≡ bufferOf t buf)
+  pub read :
+      {n number root root′ : ℕ} {s engager engager′ : List ℕ} → ReadAs n s number engager root engager′ root′
+      → (number ≡ codeOf (readOf n s .verdict)) × (engager′ ≡ settle (readOf n s .verdict) (readOf n s .engager) engager)
+      × (root′ ≡ settle (readOf n s .verdict) (readOf n s .root) root)

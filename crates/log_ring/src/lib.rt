@@ -4,6 +4,7 @@ use forms::RingStep;
 use log_lines::line_end;
 use log_rules::LINE_LIMIT;
 use log_text::put_answer;
+use refusal::COLOR_BYTES;
 use refusal::RING_NODES;
 use refusal::Refusal;
 use refusal::Verdict;
@@ -100,7 +101,7 @@ fn moved(f: RingStep, v: Verdict) -> u64
 fn step_line(
     r: RingRun,
     active: &mut [bool; RING_NODES],
-    color: &mut [u8; 12],
+    color: &mut [u8; COLOR_BYTES],
     sent: &mut [u32; RING_NODES],
     received: &mut [u32; RING_NODES],
     pending: &mut [u32; RING_NODES],
@@ -163,7 +164,7 @@ fn formless_line(r: RingRun, end: usize, out: &mut [u8]) -> RingRun
 fn turn(
     r: RingRun,
     active: &mut [bool; RING_NODES],
-    color: &mut [u8; 12],
+    color: &mut [u8; COLOR_BYTES],
     sent: &mut [u32; RING_NODES],
     received: &mut [u32; RING_NODES],
     pending: &mut [u32; RING_NODES],
@@ -197,7 +198,7 @@ fn turn(
 fn run_lines(
     first: RingRun,
     active: &mut [bool; RING_NODES],
-    color: &mut [u8; 12],
+    color: &mut [u8; COLOR_BYTES],
     sent: &mut [u32; RING_NODES],
     received: &mut [u32; RING_NODES],
     pending: &mut [u32; RING_NODES],

@@ -6,6 +6,7 @@ use log_rules::LINE_LIMIT;
 use log_text::put_answer;
 use refusal::Refusal;
 use refusal::TREE_NODES;
+use refusal::TREE_PAIRS;
 use refusal::Verdict;
 use tree::Tree;
 use tree::gathered;
@@ -70,7 +71,7 @@ fn step_line(
     active: &mut [bool; TREE_NODES],
     engager: &mut [u8; TREE_NODES],
     unacked: &mut [u32; TREE_NODES],
-    transit: &mut [u32; 256],
+    transit: &mut [u32; TREE_PAIRS],
     acks: &mut [u32; TREE_NODES],
     f: TreeStep,
     end: usize,
@@ -130,7 +131,7 @@ fn turn(
     active: &mut [bool; TREE_NODES],
     engager: &mut [u8; TREE_NODES],
     unacked: &mut [u32; TREE_NODES],
-    transit: &mut [u32; 256],
+    transit: &mut [u32; TREE_PAIRS],
     acks: &mut [u32; TREE_NODES],
     piece: &[u8],
     out: &mut [u8],
@@ -164,7 +165,7 @@ fn run_lines(
     active: &mut [bool; TREE_NODES],
     engager: &mut [u8; TREE_NODES],
     unacked: &mut [u32; TREE_NODES],
-    transit: &mut [u32; 256],
+    transit: &mut [u32; TREE_PAIRS],
     acks: &mut [u32; TREE_NODES],
     piece: &[u8],
     out: &mut [u8],

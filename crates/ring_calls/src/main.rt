@@ -2,6 +2,7 @@
 // still pass. Each line is the number of an answer, 0 where the step is accepted; then the total in transit and the black nodes, each with the
 // number of its answer before it, 3 of an unsound ring; and what a driver tells.
 use libc::STDOUT_FILENO;
+use refusal::COLOR_BYTES;
 use refusal::Count;
 use refusal::RING_NODES;
 use ring::Ring;
@@ -18,7 +19,7 @@ fn busy() -> Ring {
     Ring {
         n: 2,
         active,
-        color: [0; 12],
+        color: [0; COLOR_BYTES],
         sent,
         received: [0; RING_NODES],
         pending,

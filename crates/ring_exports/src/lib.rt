@@ -1,5 +1,6 @@
 // What other languages call of the ring: its fields are lent one by one. Bytes and numbers alone cross, and a byte above 1 where a truth
 // belongs is judged as an unsound state.
+use refusal::COLOR_BYTES;
 use refusal::RING_NODES;
 use refusal::Refusal;
 use refusal::Verdict;
@@ -24,7 +25,7 @@ fn are_flags(active: [u8; RING_NODES], black: u8, closed: u8) -> bool
 fn gathered(
     n: usize,
     active: [u8; RING_NODES],
-    color: [u8; 12],
+    color: [u8; COLOR_BYTES],
     sent: [u32; RING_NODES],
     received: [u32; RING_NODES],
     pending: [u32; RING_NODES],
@@ -54,7 +55,7 @@ fn gathered(
 fn scatter(
     ring: Ring,
     active: &mut [u8; RING_NODES],
-    color: &mut [u8; 12],
+    color: &mut [u8; COLOR_BYTES],
     sent: &mut [u32; RING_NODES],
     received: &mut [u32; RING_NODES],
     pending: &mut [u32; RING_NODES],
@@ -89,7 +90,7 @@ pub extern "C" fn muzserlik_ring_start_fields(
     flags: &[u8],
     n: &mut usize,
     active: &mut [u8; RING_NODES],
-    color: &mut [u8; 12],
+    color: &mut [u8; COLOR_BYTES],
     sent: &mut [u32; RING_NODES],
     received: &mut [u32; RING_NODES],
     pending: &mut [u32; RING_NODES],
@@ -129,7 +130,7 @@ pub extern "C" fn muzserlik_ring_start_fields(
 pub extern "C" fn muzserlik_ring_step_fields(
     n: usize,
     active: &mut [u8; RING_NODES],
-    color: &mut [u8; 12],
+    color: &mut [u8; COLOR_BYTES],
     sent: &mut [u32; RING_NODES],
     received: &mut [u32; RING_NODES],
     pending: &mut [u32; RING_NODES],
@@ -185,7 +186,7 @@ pub extern "C" fn muzserlik_ring_step_fields(
 pub extern "C" fn muzserlik_ring_is_sound_fields(
     n: usize,
     active: &[u8; RING_NODES],
-    color: &[u8; 12],
+    color: &[u8; COLOR_BYTES],
     sent: &[u32; RING_NODES],
     received: &[u32; RING_NODES],
     pending: &[u32; RING_NODES],
@@ -228,7 +229,7 @@ fn reason_verdict(e: Reason) -> Verdict
 pub extern "C" fn muzserlik_ring_drive_fields(
     n: usize,
     active: &[u8; RING_NODES],
-    color: &mut [u8; 12],
+    color: &mut [u8; COLOR_BYTES],
     sent: &[u32; RING_NODES],
     received: &[u32; RING_NODES],
     pending: &[u32; RING_NODES],

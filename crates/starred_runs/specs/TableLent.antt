@@ -43,6 +43,9 @@ starts =
     lent-start 3 (3 ∷ 2 ∷ 1 ∷ []) unread 0 (lent 3 (three 1 0 1) (3 ∷ replicate 11 0) (three 0 0 0) (three 0 0 0) (three 0 0 0) 0 (0 ⊖ 0) 1 0)
     ∷ starts-not 0 [] 1
     ∷ starts-not 97 (replicate 97 0) 1
+    -- 257 and 4294967297 are 1 in their lowest byte, and in their lowest 32 bits
+    ∷ starts-not 257 (3 ∷ []) 1
+    ∷ starts-not 4294967297 (3 ∷ []) 1
     ∷ starts-not 3 (3 ∷ 2 ∷ []) 2
     ∷ starts-not 3 (3 ∷ 2 ∷ 4 ∷ []) 2
     ∷ []
@@ -69,6 +72,10 @@ steps =
     ∷ keeps (quiet 0 0 (3 ⊖ 0) 0 1) 4 9 9 4
     ∷ keeps handed 7 0 2 5
     ∷ keeps handed 1 0 3 6
+    -- 256, 258 and 4294967296 are 0, 2 and 0 in their lowest byte, or in their lowest 32 bits
+    ∷ keeps handed 1 256 2 6
+    ∷ keeps handed 1 0 258 6
+    ∷ keeps handed 3 4294967296 9 6
     ∷ keeps handed 1 0 0 7
     ∷ keeps handed 1 1 0 8
     ∷ []

@@ -41,7 +41,9 @@ starts =
     lent-tree-start 4 2 unread 0 (lentTree 4 2 (first 0 0 0 1) (first 16 16 16 2) (replicate 16 0) (replicate 256 0) (replicate 16 0) 0 0)
     ∷ starts-not 0 0 1
     ∷ starts-not 17 2 1
+    ∷ starts-not 260 2 1
     ∷ starts-not 4 4 6
+    ∷ starts-not 4 256 6
     ∷ []
 
 abbrev pub keeps : LentTree → ℕ → ℕ → ℕ → ℕ → Case
@@ -67,6 +69,9 @@ steps =
     ∷ keeps tree 7 0 3 5
     ∷ keeps tree 257 0 3 5
     ∷ keeps tree 1 0 4 6
+    ∷ keeps tree 1 256 3 6
+    ∷ keeps tree 1 0 259 6
+    ∷ keeps tree 3 4294967296 9 6
     ∷ keeps tree 1 0 0 7
     ∷ keeps tree 6 9 9 8
     ∷ []
@@ -103,6 +108,7 @@ texts =
     ∷ lent-write tree (replicate 10 7) 77 12 77 (replicate 10 7)
     ∷ lent-read 4 "(1 (0 (2)))" (replicate 16 9) 99 0 (first 16 1 1 0) 1
     ∷ lent-read 17 "(1 (0 (2)))" (replicate 16 9) 99 1 (replicate 16 9) 99
+    ∷ lent-read 260 "(1 (0 (2)))" (replicate 16 9) 99 1 (replicate 16 9) 99
     ∷ lent-read 2 "(1 (0 (2)))" (replicate 16 9) 99 6 (replicate 16 9) 99
     ∷ lent-read 4 "(1 (0 (2))" (replicate 16 9) 99 10 (replicate 16 9) 99
     ∷ []

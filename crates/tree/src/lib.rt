@@ -2,6 +2,7 @@
 use refusal::Count;
 use refusal::Refusal;
 use refusal::TREE_NODES;
+use refusal::TREE_PAIRS;
 use refusal::Verdict;
 use tree_check::Rest;
 use tree_rules::NO_ENGAGER;
@@ -20,7 +21,7 @@ pub struct Tree {
     pub active: [bool; TREE_NODES],
     pub engager: [u8; TREE_NODES],
     pub unacked: [u32; TREE_NODES],
-    pub transit: [u32; 256],
+    pub transit: [u32; TREE_PAIRS],
     pub acks: [u32; TREE_NODES],
     pub sends: u32,
     pub closed: bool,
@@ -49,7 +50,7 @@ pub fn gathered(
     active: [bool; TREE_NODES],
     engager: [u8; TREE_NODES],
     unacked: [u32; TREE_NODES],
-    transit: [u32; 256],
+    transit: [u32; TREE_PAIRS],
     acks: [u32; TREE_NODES],
 ) -> Tree
     ensures { λ t. ⌜ state t ≡ whole r active engager unacked transit acks ⌝ }
@@ -77,7 +78,7 @@ fn no_start(e: Refusal) -> Stepped
         active: [false; TREE_NODES],
         engager: [NO_ENGAGER; TREE_NODES],
         unacked: [0; TREE_NODES],
-        transit: [0; 256],
+        transit: [0; TREE_PAIRS],
         acks: [0; TREE_NODES],
         sends: 0,
         closed: false,
@@ -103,7 +104,7 @@ fn first(n: usize, root: usize) -> Tree
         active,
         engager,
         unacked: [0; TREE_NODES],
-        transit: [0; 256],
+        transit: [0; TREE_PAIRS],
         acks: [0; TREE_NODES],
         sends: 0,
         closed: false,

@@ -1,6 +1,7 @@
 // The steps of acknowledgements over lent columns, of an open state: ack, leave and announce.
 use refusal::Refusal;
 use refusal::TREE_NODES;
+use refusal::TREE_PAIRS;
 use refusal::Verdict;
 use tree_check::Rest;
 use tree_check::Told;
@@ -20,7 +21,7 @@ pub fn ack<'a>(
     active: &'a [bool; TREE_NODES],
     engager: &'a [u8; TREE_NODES],
     unacked: &mut [u32; TREE_NODES],
-    transit: &'a [u32; 256],
+    transit: &'a [u32; TREE_PAIRS],
     acks: &mut [u32; TREE_NODES],
     i: usize,
 ) -> Told
@@ -48,7 +49,7 @@ pub fn leave<'a>(
     active: &'a [bool; TREE_NODES],
     engager: &mut [u8; TREE_NODES],
     unacked: &'a [u32; TREE_NODES],
-    transit: &'a [u32; 256],
+    transit: &'a [u32; TREE_PAIRS],
     acks: &mut [u32; TREE_NODES],
     i: usize,
 ) -> Told
@@ -77,7 +78,7 @@ pub fn announce<'a>(
     active: &'a [bool; TREE_NODES],
     engager: &'a [u8; TREE_NODES],
     unacked: &'a [u32; TREE_NODES],
-    transit: &'a [u32; 256],
+    transit: &'a [u32; TREE_PAIRS],
     acks: &'a [u32; TREE_NODES],
 ) -> Told
     requires { ⌜ Open (whole r (now active) (now engager) (now unacked) (now transit) (now acks)) ⌝ }

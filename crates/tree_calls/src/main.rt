@@ -4,6 +4,7 @@
 use libc::STDOUT_FILENO;
 use refusal::Count;
 use refusal::TREE_NODES;
+use refusal::TREE_PAIRS;
 use tree::Stepped;
 use tree::Tree;
 use tree_rules::NO_ENGAGER;
@@ -16,7 +17,7 @@ fn busy() -> Tree {
     engager[0] = 0;
     let mut unacked = [0u32; TREE_NODES];
     unacked[0] = 999999;
-    let mut transit = [0u32; 256];
+    let mut transit = [0u32; TREE_PAIRS];
     transit[1] = 999999;
     Tree {
         n: 2,

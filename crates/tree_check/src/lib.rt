@@ -2,6 +2,7 @@
 use refusal::Refusal;
 use refusal::SEND_LIMIT;
 use refusal::TREE_NODES;
+use refusal::TREE_PAIRS;
 use refusal::Verdict;
 use tree_rules::NO_NODE;
 ghost use mathlib.Core.Path.{_≡_};
@@ -67,7 +68,7 @@ pub fn sum_of(a: &[u32; TREE_NODES]) -> u64
 }
 
 // The messages in transit from node i.
-fn messages_from(transit: &[u32; 256], i: usize) -> u64
+fn messages_from(transit: &[u32; TREE_PAIRS], i: usize) -> u64
     requires { ⌜ i < 16 ⌝ }
     ensures { λ r. ⌜ (r ≡ messagesFrom (now (transit .entry)) i) × (r ≤ 16 * 2 ^ 32) ⌝ }
 {
@@ -134,7 +135,7 @@ fn pairs_ok<'a>(
     active: &'a [bool; TREE_NODES],
     engager: &'a [u8; TREE_NODES],
     unacked: &'a [u32; TREE_NODES],
-    transit: &'a [u32; 256],
+    transit: &'a [u32; TREE_PAIRS],
     acks: &'a [u32; TREE_NODES],
     i: usize,
 ) -> bool
@@ -157,7 +158,7 @@ fn place_ok<'a>(
     active: &'a [bool; TREE_NODES],
     engager: &'a [u8; TREE_NODES],
     unacked: &'a [u32; TREE_NODES],
-    transit: &'a [u32; 256],
+    transit: &'a [u32; TREE_PAIRS],
     acks: &'a [u32; TREE_NODES],
     i: usize,
 ) -> bool
@@ -183,7 +184,7 @@ fn places_ok<'a>(
     active: &'a [bool; TREE_NODES],
     engager: &'a [u8; TREE_NODES],
     unacked: &'a [u32; TREE_NODES],
-    transit: &'a [u32; 256],
+    transit: &'a [u32; TREE_PAIRS],
     acks: &'a [u32; TREE_NODES],
 ) -> bool
     requires { ⌜ Shape (whole r (now active) (now engager) (now unacked) (now transit) (now acks)) ⌝ }
@@ -204,7 +205,7 @@ pub fn is_conclusive<'a>(
     active: &'a [bool; TREE_NODES],
     engager: &'a [u8; TREE_NODES],
     unacked: &'a [u32; TREE_NODES],
-    transit: &'a [u32; 256],
+    transit: &'a [u32; TREE_PAIRS],
     acks: &'a [u32; TREE_NODES],
 ) -> bool
     requires { ⌜ r .root < 16 ⌝ }
@@ -220,7 +221,7 @@ pub fn is_sound<'a>(
     active: &'a [bool; TREE_NODES],
     engager: &'a [u8; TREE_NODES],
     unacked: &'a [u32; TREE_NODES],
-    transit: &'a [u32; 256],
+    transit: &'a [u32; TREE_PAIRS],
     acks: &'a [u32; TREE_NODES],
 ) -> bool
     requires { ⌜ Shape (whole r (now active) (now engager) (now unacked) (now transit) (now acks)) ⌝ }

@@ -2,6 +2,7 @@
 // above 1 where a truth belongs is judged as an unsound state.
 use refusal::Refusal;
 use refusal::TREE_NODES;
+use refusal::TREE_PAIRS;
 use refusal::Verdict;
 use tree::Tree;
 use tree_text::Written;
@@ -26,7 +27,7 @@ fn gathered(
     active: [u8; TREE_NODES],
     engager: [u8; TREE_NODES],
     unacked: [u32; TREE_NODES],
-    transit: [u32; 256],
+    transit: [u32; TREE_PAIRS],
     acks: [u32; TREE_NODES],
     sends: u32,
     closed: u8,
@@ -53,7 +54,7 @@ fn scatter(
     active: &mut [u8; TREE_NODES],
     engager: &mut [u8; TREE_NODES],
     unacked: &mut [u32; TREE_NODES],
-    transit: &mut [u32; 256],
+    transit: &mut [u32; TREE_PAIRS],
     acks: &mut [u32; TREE_NODES],
     sends: &mut u32,
     closed: &mut u8,
@@ -85,7 +86,7 @@ pub extern "C" fn muzserlik_tree_start_fields(
     active: &mut [u8; TREE_NODES],
     engager: &mut [u8; TREE_NODES],
     unacked: &mut [u32; TREE_NODES],
-    transit: &mut [u32; 256],
+    transit: &mut [u32; TREE_PAIRS],
     acks: &mut [u32; TREE_NODES],
     sends: &mut u32,
     closed: &mut u8,
@@ -114,7 +115,7 @@ pub extern "C" fn muzserlik_tree_step_fields(
     active: &mut [u8; TREE_NODES],
     engager: &mut [u8; TREE_NODES],
     unacked: &mut [u32; TREE_NODES],
-    transit: &mut [u32; 256],
+    transit: &mut [u32; TREE_PAIRS],
     acks: &mut [u32; TREE_NODES],
     sends: &mut u32,
     closed: &mut u8,
@@ -157,7 +158,7 @@ pub extern "C" fn muzserlik_tree_is_sound_fields(
     active: &[u8; TREE_NODES],
     engager: &[u8; TREE_NODES],
     unacked: &[u32; TREE_NODES],
-    transit: &[u32; 256],
+    transit: &[u32; TREE_PAIRS],
     acks: &[u32; TREE_NODES],
     sends: u32,
     closed: u8,
@@ -187,7 +188,7 @@ pub extern "C" fn muzserlik_tree_write_fields(
     active: &[u8; TREE_NODES],
     engager: &[u8; TREE_NODES],
     unacked: &[u32; TREE_NODES],
-    transit: &[u32; 256],
+    transit: &[u32; TREE_PAIRS],
     acks: &[u32; TREE_NODES],
     sends: u32,
     closed: u8,

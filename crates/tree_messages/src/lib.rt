@@ -2,6 +2,7 @@
 use refusal::Refusal;
 use refusal::SEND_LIMIT;
 use refusal::TREE_NODES;
+use refusal::TREE_PAIRS;
 use refusal::Verdict;
 use tree_check::Rest;
 use tree_check::Told;
@@ -20,7 +21,7 @@ pub fn send<'a>(
     active: &'a [bool; TREE_NODES],
     engager: &'a [u8; TREE_NODES],
     unacked: &mut [u32; TREE_NODES],
-    transit: &mut [u32; 256],
+    transit: &mut [u32; TREE_PAIRS],
     acks: &'a [u32; TREE_NODES],
     i: usize,
     j: usize,
@@ -60,7 +61,7 @@ pub fn take<'a>(
     active: &mut [bool; TREE_NODES],
     engager: &mut [u8; TREE_NODES],
     unacked: &'a [u32; TREE_NODES],
-    transit: &mut [u32; 256],
+    transit: &mut [u32; TREE_PAIRS],
     acks: &mut [u32; TREE_NODES],
     i: usize,
     k: usize,
@@ -100,7 +101,7 @@ pub fn idle<'a>(
     active: &mut [bool; TREE_NODES],
     engager: &'a [u8; TREE_NODES],
     unacked: &'a [u32; TREE_NODES],
-    transit: &'a [u32; 256],
+    transit: &'a [u32; TREE_PAIRS],
     acks: &'a [u32; TREE_NODES],
     i: usize,
 ) -> Told

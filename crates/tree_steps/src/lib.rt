@@ -1,6 +1,7 @@
 // A step by its kind number over lent columns, of a state that is known to be sound.
 use refusal::Refusal;
 use refusal::TREE_NODES;
+use refusal::TREE_PAIRS;
 use tree_acks::ack;
 use tree_acks::announce;
 use tree_acks::leave;
@@ -23,7 +24,7 @@ pub fn step(
     active: &mut [bool; TREE_NODES],
     engager: &mut [u8; TREE_NODES],
     unacked: &mut [u32; TREE_NODES],
-    transit: &mut [u32; 256],
+    transit: &mut [u32; TREE_PAIRS],
     acks: &mut [u32; TREE_NODES],
     kind: u8,
     i: usize,

@@ -113,8 +113,11 @@ fn run(piece: &mut [u8], line: &mut [u8], out: &mut [u8]) -> Step
     }
 }
 
-// The bytes of an answer for each byte of a piece (64 KiB) and of the line that is held.
-const OUT_BYTES: usize = (65536 + LINE_BYTES) * ANSWER_BYTES;
+// The bytes of a piece: those of the large buffer of `io`.
+const PIECE_BYTES: usize = 65536;
+
+// The bytes of an answer for each byte of a piece and of the line that is held.
+const OUT_BYTES: usize = (PIECE_BYTES + LINE_BYTES) * ANSWER_BYTES;
 
 fn answers() -> [u8; OUT_BYTES]
     ensures { λ r. ⌜ (65536 + lineBytes) * answerBytes ≡ length r ⌝ }
