@@ -5,6 +5,7 @@
 mod believed;
 mod declared;
 mod edits;
+mod header;
 mod layout;
 mod names;
 mod refusals;

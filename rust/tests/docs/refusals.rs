@@ -1,4 +1,4 @@
-//! The refusals of crates/refusal have the same names and numbers in the header for C, in README and in the second implementation.
+//! The refusals of crates/refusal have the same names and numbers in README and in the second implementation.
 
 use crate::repository::{read, rows, section};
 use second::refusal::Refusal;
@@ -11,29 +11,6 @@ fn proved() -> Vec<(String, u32)> {
         Some((name.to_owned(), number.trim_end_matches(',').parse().ok()?))
     };
     code.lines().filter_map(row).collect()
-}
-
-/// `SendLimit` is `SEND_LIMIT`.
-fn upper(name: &str) -> String {
-    let mut upper = String::new();
-    for (k, c) in name.chars().enumerate() {
-        if c.is_uppercase() && k > 0 {
-            upper.push('_');
-        }
-        upper.extend(c.to_uppercase());
-    }
-    upper
-}
-
-#[test]
-fn the_header_has_each() {
-    let header = read("c/muzserlik.h");
-    let proved = proved();
-    for (name, number) in &proved {
-        let constant = format!("MUZSERLIK_REFUSED_{} = {number},", upper(name));
-        assert!(header.contains(&constant), "{constant}");
-    }
-    assert_eq!(header.matches("MUZSERLIK_REFUSED_").count(), proved.len());
 }
 
 #[test]

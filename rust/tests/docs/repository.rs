@@ -76,6 +76,23 @@ pub fn rows(text: &str) -> Vec<Vec<String>> {
         .collect()
 }
 
+/// The tables of a page, each with its head first.
+pub fn tables(page: &str) -> Vec<Vec<Vec<String>>> {
+    let mut found: Vec<Vec<Vec<String>>> = Vec::new();
+    let mut inside = false;
+    for line in page.lines() {
+        let is_row = line.starts_with('|');
+        if is_row && !inside {
+            found.push(Vec::new());
+        }
+        inside = is_row;
+        if let Some(table) = found.last_mut() {
+            table.extend(rows(line));
+        }
+    }
+    found
+}
+
 /// The words of a list with commas.
 pub fn list(text: &str) -> Vec<String> {
     text.split(',')
