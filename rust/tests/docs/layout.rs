@@ -1,4 +1,5 @@
-//! README's layout: every crate stands on one floor, the same in README and in crates.txt, and uses no floor further on.
+//! The layout: every crate stands on one floor, the same in README and in crates.txt, and uses no floor further on; each has its row in the
+//! table of times.
 
 use crate::repository::{crates, read, rows, section};
 use std::collections::BTreeMap;
@@ -66,4 +67,39 @@ fn a_crate_uses_its_own_floor_and_those_before_it() {
             assert!(below, "{name} uses {other}");
         }
     }
+}
+
+/// The first column of the table of times: each crate, and then the sum.
+fn timed(page: &str) -> Vec<String> {
+    rows(page)
+        .iter()
+        .skip(1)
+        .map(|row| row[0].clone())
+        .collect()
+}
+
+/// What has to stand there, in the order of names.
+fn to_be_timed() -> Vec<String> {
+    let names = crates().into_iter().map(|name| format!("`{name}`"));
+    names.chain(["all".to_owned()]).collect()
+}
+
+#[test]
+fn the_table_of_times_has_every_crate_and_no_other() {
+    assert_eq!(timed(&read("docs/CHECK-TIMES.md")), to_be_timed());
+}
+
+#[test]
+fn a_crate_that_is_not_timed_is_found() {
+    let line = |name: &String| format!("| {name} | 1 |\n");
+    let page = |names: &[String]| {
+        let body: String = names.iter().map(line).collect();
+        format!("Text\n\n| Crate | code |\n|---|---|\n{body}")
+    };
+    let mut names = to_be_timed();
+    assert_eq!(timed(&page(&names)), names);
+    names.remove(3);
+    assert_ne!(timed(&page(&names)), to_be_timed());
+    names.insert(3, "`nowhere`".to_owned());
+    assert_ne!(timed(&page(&names)), to_be_timed());
 }
