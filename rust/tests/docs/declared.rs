@@ -1,45 +1,131 @@
 //! What the crates declare: records, data, functions and their parts, as far as the names go.
 
-use crate::repository::{crates, files};
+use crate::repository::{crates, dependencies, files, read, top};
 use std::collections::{BTreeMap, BTreeSet};
-use std::fs;
+use std::sync::OnceLock;
 
+/// A file, and what it declares.
 #[derive(Default)]
+pub struct File {
+    /// From the repository's top.
+    pub path: String,
+    pub owner: String,
+    /// Definitions, statements, proofs, functions, types, variants, constants.
+    tops: BTreeSet<String>,
+    /// The fields of a record, the cases of a data type, the variants of an enum, the methods of a type, the functions of a crate.
+    parts: BTreeMap<String, BTreeSet<String>>,
+}
+
 pub struct Declared {
-    /// Every name: of definitions, statements, proofs, functions, types, variants, fields.
-    pub names: BTreeSet<String>,
-    /// The fields of a record, the cases of a data type, the variants of an enum, the methods of a type, the functions of a crate. Records of
-    /// the same name in different crates share their parts.
-    pub parts: BTreeMap<String, BTreeSet<String>>,
+    pub files: Vec<File>,
+    /// The crates, and those of the toolchain that they use.
+    pub crates: BTreeSet<String>,
+    /// The toolchain's modules that are imported anywhere.
+    pub modules: BTreeSet<String>,
+}
+
+/// What a span names: a name alone, or a part of something (`Record.part`, `Type::method`, `crate::function`).
+pub enum Name<'a> {
+    Alone(&'a str),
+    Part(&'a str, &'a str),
+}
+
+impl<'a> Name<'a> {
+    pub fn of(span: &'a str) -> Self {
+        let part = span.split_once("::").or_else(|| span.split_once('.'));
+        part.map_or(Name::Alone(span), |(owner, part)| Name::Part(owner, part))
+    }
+}
+
+pub fn declared() -> &'static Declared {
+    static READ: OnceLock<Declared> = OnceLock::new();
+    READ.get_or_init(Declared::read)
 }
 
 impl Declared {
-    pub fn read() -> Self {
-        let mut declared = Self::default();
+    fn read() -> Self {
+        let mut declared = Self {
+            files: Vec::new(),
+            crates: crates(),
+            modules: BTreeSet::new(),
+        };
         for name in crates() {
-            for folder in ["specs", "proofs", "src"] {
-                for path in files(&name, folder) {
-                    let text = fs::read_to_string(&path).expect("a text");
-                    match path.extension().and_then(|end| end.to_str()) {
-                        Some("antt") => declared.logic(&text),
-                        Some("rt") => declared.code(&name, &text),
-                        _ => (),
-                    }
-                }
+            declared.crates.extend(dependencies(&name));
+            for path in ["specs", "proofs", "src"]
+                .map(|folder| files(&name, folder))
+                .concat()
+            {
+                let path = path.strip_prefix(top()).expect("a file of the repository");
+                let path = path.to_str().expect("a path in UTF-8").to_owned();
+                let text = read(&path);
+                declared.modules.extend(modules(&text));
+                declared.files.push(File::read(path, &name, &text));
             }
-            declared.names.insert(name);
         }
         declared
     }
 
-    pub fn has_part(&self, owner: &str, part: &str) -> bool {
-        self.parts
-            .get(owner)
-            .is_some_and(|parts| parts.contains(part))
+    /// Whether one of some files declares a name.
+    pub fn has(&self, name: &Name, among: impl Fn(&File) -> bool) -> bool {
+        self.files.iter().any(|file| among(file) && file.has(name))
+    }
+}
+
+/// The modules of the toolchain that a text imports, as `lib.Dec` or `Rattle.io.specs.Counts`.
+pub fn modules(text: &str) -> BTreeSet<String> {
+    let ours = crates();
+    let module = |line: &str| {
+        let line = line.strip_prefix("ghost ").unwrap_or(line);
+        let rest = line.strip_prefix("use ")?;
+        let end = rest.find(".{").or_else(|| rest.find(" as "));
+        let module = &rest[..end.unwrap_or(rest.len())];
+        let owner = module
+            .strip_prefix("Rattle·")
+            .map(|rest| rest.split(['.', '·']).next());
+        let is_ours = owner.flatten().is_some_and(|owner| ours.contains(owner));
+        (!is_ours && !module.contains("::")).then(|| module.to_owned())
+    };
+    text.lines().filter_map(module).collect()
+}
+
+impl File {
+    fn read(path: String, owner: &str, text: &str) -> Self {
+        let mut file = Self {
+            owner: owner.to_owned(),
+            ..Self::default()
+        };
+        if path.ends_with(".antt") {
+            file.logic(text);
+        } else {
+            file.code(owner, text);
+        }
+        Self { path, ..file }
     }
 
-    fn add(&mut self, owner: Option<&str>, name: &str) {
-        self.names.insert(name.to_owned());
+    pub fn has(&self, name: &Name) -> bool {
+        let has_part = |owner: &str, part: &str| {
+            self.parts
+                .get(owner)
+                .is_some_and(|parts| parts.contains(part))
+        };
+        match name {
+            Name::Alone(name) => {
+                self.tops.contains(*name) || self.parts.keys().any(|owner| has_part(owner, name))
+            }
+            Name::Part(owner, part) => has_part(owner, part),
+        }
+    }
+
+    /// Declared by itself: a part of a record of logic is not.
+    pub fn has_top(&self, name: &str) -> bool {
+        self.tops.contains(name)
+    }
+
+    /// A part of logic is declared in its record alone; what stands further in in code is declared by itself too.
+    fn add(&mut self, owner: Option<&str>, name: &str, is_top: bool) {
+        if is_top {
+            self.tops.insert(name.to_owned());
+        }
         if let Some(owner) = owner {
             let parts = self.parts.entry(owner.to_owned()).or_default();
             parts.insert(name.to_owned());
@@ -60,11 +146,14 @@ impl Declared {
                 .collect();
             match words.as_slice() {
                 ["record" | "data", name, ..] => {
-                    self.add(None, name);
+                    self.add(None, name, true);
                     self.parts.entry((*name).to_owned()).or_default();
                     owner = Some((indent, (*name).to_owned()));
                 }
-                [name, ":", ..] => self.add(owner.as_ref().map(|(_, name)| name.as_str()), name),
+                [name, ":", ..] => {
+                    let record = owner.as_ref().map(|(_, name)| name.clone());
+                    self.add(record.as_deref(), name, record.is_none());
+                }
                 _ => (),
             }
         }
@@ -82,12 +171,12 @@ impl Declared {
             match words.as_slice() {
                 ["impl", name] => owner = (*name).to_owned(),
                 ["struct" | "enum", name] => {
-                    self.add(Some(crate_name), name);
+                    self.add(Some(crate_name), name, true);
                     owner = (*name).to_owned();
                 }
-                ["fn", name, ..] if further_in => self.add(Some(&owner), name),
-                ["fn" | "const", name, ..] => self.add(Some(crate_name), name),
-                [name, ..] if further_in && declares(line) => self.add(Some(&owner), name),
+                ["fn", name, ..] if further_in => self.add(Some(&owner), name, true),
+                ["fn" | "const", name, ..] => self.add(Some(crate_name), name, true),
+                [name, ..] if further_in && declares(line) => self.add(Some(&owner), name, true),
                 _ => (),
             }
             if line == "}" {

@@ -8,6 +8,7 @@ mod edits;
 mod header;
 mod layout;
 mod names;
+mod places;
 mod refusals;
 mod repository;
 mod statements;

@@ -1,8 +1,10 @@
 //! Every name that a page gives is declared: `name`, `Record.part`, `.part` of a record named before it in the same row or paragraph,
-//! `Type::method`, `crate::function`; every path and file is there.
+//! `Type::method`, `crate::function`; where a place stands beside it, in that place; in a column of the ring or of the tree, not by the other
+//! detector's crates. Every path and file is there.
 
-use crate::declared::Declared;
-use crate::repository::{crates, files, read, top};
+use crate::declared::{declared, File, Name};
+use crate::places::{is_name, misplaced};
+use crate::repository::{cells, crates, files, read, top};
 use std::collections::BTreeSet;
 
 /// What stands in code spans and is not declared by a crate: tools, types and words of the languages, words of a log's end line.
@@ -26,8 +28,11 @@ const WORDS: [&str; 17] = [
     ".out",
 ];
 
+/// What stands in code spans of the pages of names and is neither a name nor a form of a log's line or a text of bytes.
+const TEXTS: [&str; 1] = ["ring_rules: State"];
+
 /// Rows by themselves; other lines together up to an empty one.
-fn paragraphs(page: &str) -> Vec<String> {
+pub fn paragraphs(page: &str) -> Vec<String> {
     let mut found = vec![String::new()];
     for line in page.lines() {
         if line.starts_with('|') || line.is_empty() {
@@ -40,44 +45,116 @@ fn paragraphs(page: &str) -> Vec<String> {
     found
 }
 
-fn spans(paragraph: &str) -> Vec<&str> {
-    paragraph.split('`').skip(1).step_by(2).collect()
+/// Whose column a text stands in.
+#[derive(Clone, Copy, PartialEq)]
+enum Side {
+    Both,
+    Ring,
+    Tree,
 }
 
-fn is_name(span: &str) -> bool {
-    span.chars()
-        .all(|c| c.is_alphanumeric() || "_-.:'′".contains(c))
+impl Side {
+    fn of(head: &str) -> Self {
+        match head {
+            "Ring" => Side::Ring,
+            "Tree" => Side::Tree,
+            _ => Side::Both,
+        }
+    }
+
+    /// Not a file of the other detector's.
+    fn has(self, file: &File) -> bool {
+        let is_of = |other: &str| file.owner.split('_').next() == Some(other);
+        match self {
+            Side::Both => true,
+            Side::Ring => !is_of("tree"),
+            Side::Tree => !is_of("ring"),
+        }
+    }
+}
+
+/// Paragraphs and rows; the cells of a table with columns of the ring or the tree by themselves.
+fn texts(page: &str) -> Vec<(Side, String)> {
+    let mut heads: Vec<Side> = Vec::new();
+    let mut found = Vec::new();
+    for paragraph in paragraphs(page) {
+        if !paragraph.starts_with('|') {
+            heads.clear();
+        } else if heads.is_empty() {
+            heads = cells(paragraph.trim_end())
+                .iter()
+                .map(|head| Side::of(head))
+                .collect();
+        }
+        if heads.iter().all(|side| *side == Side::Both) {
+            found.push((Side::Both, paragraph));
+            continue;
+        }
+        let cells = cells(paragraph.trim_end());
+        let sides = heads.iter().chain(std::iter::repeat(&Side::Both));
+        found.extend(sides.copied().zip(cells));
+    }
+    found
+}
+
+fn spans(text: &str) -> Vec<&str> {
+    text.split('`').skip(1).step_by(2).collect()
 }
 
 /// Whether a span is declared; records that are named are kept for the parts that follow.
-fn is_declared(span: &str, declared: &Declared, records: &mut Vec<String>) -> bool {
+fn is_declared(span: &str, side: Side, records: &mut Vec<String>) -> bool {
+    let declared = declared();
+    let has = |name: &Name| declared.has(name, |file| side.has(file));
+    if declared.modules.contains(span) || declared.crates.contains(span) {
+        return true;
+    }
     if let Some(part) = span.strip_prefix('.') {
-        return records.iter().any(|name| declared.has_part(name, part));
+        return records.iter().any(|record| has(&Name::Part(record, part)));
     }
-    if let Some((owner, part)) = span.split_once("::") {
-        return declared.has_part(owner, part);
+    let name = Name::of(span);
+    let is_type = span.starts_with(char::is_uppercase);
+    if !span.contains("::") {
+        records.push(span.split('.').next().unwrap_or(span).to_owned());
     }
-    if let Some((owner, part)) = span.split_once('.') {
-        records.push(owner.to_owned());
-        return declared.has_part(owner, part);
+    match name {
+        Name::Alone(name) if is_type => declared
+            .files
+            .iter()
+            .any(|file| side.has(file) && !file.path.contains("/proofs/") && file.has_top(name)),
+        name => has(&name),
     }
-    records.push(span.to_owned());
-    declared.names.contains(span)
 }
 
+/// The names of a page that are declared nowhere, or not where is said, and the paragraphs whose code spans do not end.
 fn undeclared(page: &str) -> Vec<String> {
-    let declared = Declared::read();
     let mut found = Vec::new();
-    for paragraph in paragraphs(page) {
+    for (side, text) in texts(page) {
         let mut records = Vec::new();
-        for span in spans(&paragraph) {
+        for span in spans(&text) {
             let skipped = WORDS.contains(&span) || !is_name(span);
-            if !skipped && !is_declared(span, &declared, &mut records) {
+            if !skipped && !is_declared(span, side, &mut records) {
                 found.push(span.to_owned());
             }
         }
     }
+    for paragraph in paragraphs(page) {
+        found.extend(misplaced(&paragraph));
+        let is_odd = paragraph.matches('`').count() % 2 == 1;
+        found.extend(is_odd.then(|| format!("a span that does not end: {paragraph}")));
+    }
     found
+}
+
+/// The code spans that are no name, no form of a log's line, `(..)`, and no text of bytes, `b".."`.
+fn nameless(page: &str) -> Vec<String> {
+    let is_text =
+        |span: &str| span.starts_with('(') || span.starts_with("b\"") || TEXTS.contains(&span);
+    paragraphs(page)
+        .iter()
+        .flat_map(|paragraph| spans(paragraph))
+        .filter(|span| !is_name(span) && !WORDS.contains(span) && !is_text(span))
+        .map(str::to_owned)
+        .collect()
 }
 
 /// Paths from the top, and names of files of the logic.
@@ -121,10 +198,69 @@ fn files_that_are_named_are_there() {
 }
 
 #[test]
+fn spans_are_names() {
+    for page in ["docs/PROMISES.md", "docs/EDITS.md"] {
+        assert_eq!(nameless(&read(page)), Vec::<String>::new(), "{page}");
+    }
+}
+
+#[test]
 fn an_invented_name_is_found() {
     let page =
         "`StepAnswered.accepted`, `.refused`, `.nowhere`, `Ring::start`, `Ring::stop`, `invented`";
     assert_eq!(undeclared(page), [".nowhere", "Ring::stop", "invented"]);
     let page = "crates/ring/src, crates/nowhere/src, Nowhere.antt";
     assert_eq!(lost_files(page), ["crates/nowhere/src", "Nowhere.antt"]);
+}
+
+#[test]
+fn a_span_that_is_no_name_is_found() {
+    let page = "`(ok k)`, `b\"(send\"`, `Fields Unread0`, `FieldsUnread!`";
+    assert_eq!(nameless(page), ["Fields Unread0", "FieldsUnread!"]);
+    let odd = "`Ring` and `Tree\n\n| `Ring` |\n";
+    assert_eq!(undeclared(odd).len(), 1);
+    let odd = "`Ring`\n| `Ring |\n| Tree` |\n";
+    assert_eq!(undeclared(odd).len(), 2);
+}
+
+#[test]
+fn a_name_stands_in_its_place() {
+    let run = "crates/watch/specs/Run.antt";
+    for page in [
+        format!("`Ran` ({run})"),
+        format!("`Ran`, `Pumped` ({run}): turns"),
+        format!("`Pumped` and\n`Ran` ({run})"),
+        format!("(`Ran`, {run})"),
+        format!("`Ran` in {run}"),
+        "`Turned` (crates/watch/specs/Turn.antt); `Ran` (Run.antt)".to_owned(),
+    ] {
+        assert_eq!(undeclared(&page).len(), 1, "{page}");
+    }
+    for page in [
+        format!("`Pumped` ({run}); `Turned` (Turn.antt)"),
+        "`Ran` (crates/ring_driver)".to_owned(),
+        "`feed`, `finish` (crates/log, crates/log_finish)".to_owned(),
+    ] {
+        assert_eq!(undeclared(&page), Vec::<String>::new());
+    }
+    let both =
+        "`Countdown` (crates/ring_runs/specs/WholeRun.antt, crates/tree_runs/specs/WholeRun.antt)";
+    assert_eq!(
+        undeclared(both),
+        ["Countdown: crates/tree_runs/specs/WholeRun.antt"]
+    );
+}
+
+#[test]
+fn a_capital_is_a_statement_or_a_type() {
+    assert_eq!(undeclared("`WholeRuns`, `Conclusive`, `K`"), ["K"]);
+}
+
+#[test]
+fn a_column_is_its_own_detectors() {
+    let head = "| Sentence | Ring | Tree |\n|---|---|---|\n";
+    let page = format!("{head}| a | `Counted.moves-alone` | `Counted`, `.closing-alone` |\n");
+    assert_eq!(undeclared(&page), Vec::<String>::new());
+    let page = format!("{head}| a | `Counted`, `.closing-alone` | `Counted.moves-alone` |\n");
+    assert_eq!(undeclared(&page), [".closing-alone", "Counted.moves-alone"]);
 }

@@ -35,6 +35,18 @@ pub fn crates() -> BTreeSet<String> {
         .collect()
 }
 
+/// What a crate depends on, by crates.txt.
+pub fn dependencies(name: &str) -> Vec<String> {
+    let list = read("crates.txt");
+    let used = list
+        .lines()
+        .find_map(|line| line.strip_prefix(name)?.strip_prefix(':'));
+    used.expect(name)
+        .split_whitespace()
+        .map(str::to_owned)
+        .collect()
+}
+
 /// The files of a crate's folder `specs`, `proofs` or `src`, with those of folders in it.
 pub fn files(name: &str, folder: &str) -> Vec<PathBuf> {
     let mut found = Vec::new();
@@ -69,11 +81,14 @@ pub fn section<'a>(page: &'a str, heading: &str) -> &'a str {
 pub fn rows(text: &str) -> Vec<Vec<String>> {
     text.lines()
         .filter(|line| line.starts_with('|') && !line.starts_with("|-"))
-        .map(|line| {
-            let line = line.trim_start_matches('|').trim_end_matches('|');
-            line.split('|').map(|cell| cell.trim().to_owned()).collect()
-        })
+        .map(cells)
         .collect()
+}
+
+/// The cells of a row.
+pub fn cells(row: &str) -> Vec<String> {
+    let row = row.trim_start_matches('|').trim_end_matches('|');
+    row.split('|').map(|cell| cell.trim().to_owned()).collect()
 }
 
 /// The tables of a page, each with its head first.
