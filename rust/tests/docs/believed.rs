@@ -1,94 +1,248 @@
-//! "What a reader has to believe" in docs/PROMISES.md: the files are there, as long as is said, and whatever they or the contracts of the
-//! public operations import from specs is among them.
+//! "What a reader has to believe" in docs/PROMISES.md: every file of `specs/` and of code is in the table or is known to be an inner one, the
+//! files are as long as is said, whatever they import is among them, and the toolchain's modules that they use are named.
 
-use crate::repository::{list, read, rows, section, top};
+use crate::declared::modules;
+use crate::names::paragraphs;
+use crate::places::{declaring, placed};
+use crate::repository::{crates, dependencies, files, list, read, rows, section, top};
 use std::collections::BTreeSet;
-use std::fs;
-use std::path::PathBuf;
+
+/// Files of `specs/` that need not be believed: contracts between functions of the code, which the contracts of the public operations do not
+/// mention.
+const INNER: [(&str, &str); 7] = [
+    ("log_end", "Ends"),
+    ("log_lines", "Lines"),
+    ("log_ring", "Run"),
+    ("log_tree", "Run"),
+    ("ring_check", "Told"),
+    ("tree_check", "Told"),
+    ("ring_driver", "Ran"),
+];
+
+/// Crates whose code need not be believed: it is called by the public operations, and proved; two are test programs.
+const INNER_CODE: [&str; 17] = [
+    "log_end",
+    "log_lines",
+    "log_ring",
+    "log_text",
+    "log_tree",
+    "ring_calls",
+    "ring_driver",
+    "ring_forms",
+    "ring_messages",
+    "ring_start",
+    "ring_steps",
+    "ring_token",
+    "tree_acks",
+    "tree_calls",
+    "tree_forms",
+    "tree_messages",
+    "tree_steps",
+];
+
+fn spec(name: &str, file: &str) -> String {
+    format!("crates/{name}/specs/{file}.antt")
+}
+
+/// The code of a crate.
+fn code(name: &str) -> String {
+    let program = format!("crates/{name}/src/main.rt");
+    match top().join(&program).exists() {
+        true => program,
+        false => format!("crates/{name}/src/lib.rt"),
+    }
+}
 
 /// `crate: File, File; crate: File` with the files of specs, or `crate` alone, its code.
-fn paths(cell: &str) -> Vec<PathBuf> {
+fn paths(cell: &str) -> Vec<String> {
     let mut found = Vec::new();
     for part in cell.split(';') {
-        let (name, files) = part.split_once(':').unwrap_or((part, ""));
-        let folder = PathBuf::from("crates").join(name.trim());
-        if files.is_empty() {
-            let library = folder.join("src/lib.rt");
-            let program = folder.join("src/main.rt");
-            let is_library = top().join(&library).exists();
-            found.push(if is_library { library } else { program });
+        match part.split_once(':') {
+            Some((name, files)) => {
+                found.extend(list(files).iter().map(|file| spec(name.trim(), file)));
+            }
+            None => found.push(code(part.trim())),
         }
-        found.extend(
-            list(files)
-                .iter()
-                .map(|file| folder.join(format!("specs/{file}.antt"))),
-        );
     }
     found
 }
 
-/// The files that a text imports from `specs/` of crates of the repository, and the code whose types it imports.
-fn imports(text: &str) -> BTreeSet<PathBuf> {
+const HEADING: &str = "## What a reader has to believe";
+
+/// The rows of the table, without its head.
+fn table(page: &str) -> Vec<Vec<String>> {
+    rows(section(page, HEADING)).split_off(1)
+}
+
+fn listed(page: &str) -> BTreeSet<String> {
+    table(page).iter().flat_map(|row| paths(&row[1])).collect()
+}
+
+fn page() -> String {
+    read("docs/PROMISES.md")
+}
+
+/// Every file of `specs/` but the lists of them, and all code that declares something.
+fn there() -> BTreeSet<String> {
     let mut found = BTreeSet::new();
-    for line in text.lines() {
-        let Some(rest) = line.split("use Rattle·").nth(1) else {
-            continue;
-        };
-        let Some((owner, rest)) = rest.split_once(".specs.") else {
-            continue;
-        };
-        let owner = owner.trim_end_matches("·specs");
-        let file = rest
-            .split(|c: char| !(c.is_alphanumeric() || c == '_'))
-            .next()
-            .unwrap_or_default();
-        let folder = PathBuf::from("crates").join(owner);
-        found.insert(match file {
-            "declared" => folder.join("src/lib.rt"),
-            _ => folder.join(format!("specs/{file}.antt")),
-        });
+    for name in crates() {
+        for path in [files(&name, "specs"), files(&name, "src")].concat() {
+            let path = path.strip_prefix(top()).expect("a file of the repository");
+            let path = path.to_str().expect("a path in UTF-8").to_owned();
+            let is_code = path.ends_with(".rt");
+            let is_empty = read(&path).lines().all(|line| line.starts_with("//"));
+            if !(path.ends_with("/Lib.antt") || (is_code && is_empty)) {
+                found.insert(path);
+            }
+        }
     }
     found
 }
 
-fn table() -> Vec<Vec<String>> {
-    let page = read("docs/PROMISES.md");
-    rows(section(&page, "## What a reader has to believe"))
+fn inner() -> BTreeSet<String> {
+    let specs = INNER.iter().map(|(name, file)| spec(name, file));
+    specs
+        .chain(INNER_CODE.iter().map(|name| code(name)))
+        .collect()
 }
 
-fn lines(path: &PathBuf) -> usize {
-    let text = fs::read_to_string(top().join(path));
-    text.unwrap_or_else(|error| panic!("{}: {error}", path.display()))
-        .lines()
-        .count()
+/// The files that a text imports: of `specs/`, and the code whose types and constants it imports. Its functions are left: they are called in bodies.
+fn imports(text: &str) -> BTreeSet<String> {
+    let crates = crates();
+    let import = |line: &str| {
+        let line = line.strip_prefix("ghost ").unwrap_or(line);
+        let rest = line.strip_prefix("use ")?;
+        if let Some((name, what)) = rest.split_once("::") {
+            return what.starts_with(char::is_uppercase).then(|| code(name));
+        }
+        let (owner, rest) = rest.strip_prefix("Rattle·")?.split_once(".specs.")?;
+        let owner = owner.trim_end_matches("·specs");
+        let end = rest.find(|c: char| !(c.is_alphanumeric() || c == '_'));
+        let file = &rest[..end.unwrap_or(rest.len())];
+        crates.contains(owner).then(|| match file {
+            "declared" => code(owner),
+            _ => spec(owner, file),
+        })
+    };
+    text.lines().filter_map(import).collect()
+}
+
+/// The files that are neither in the page's table nor inner.
+fn left_out(page: &str) -> BTreeSet<String> {
+    let known = &listed(page) | &inner();
+    &there() - &known
+}
+
+/// The files in which what the page names with a place is declared, where none of them is in the table.
+fn named_outside(page: &str) -> Vec<String> {
+    let listed = listed(page);
+    let mut found = Vec::new();
+    for named in paragraphs(page).iter().flat_map(|text| placed(text)) {
+        for place in named.places {
+            let files = declaring(&named.span, &place);
+            if !files.iter().any(|file| listed.contains(&file.path)) {
+                found.push(named.span.clone());
+            }
+        }
+    }
+    found
+}
+
+const TOOLCHAIN: &str = "Definitions of the toolchain that these files use:";
+
+/// What the page says of the toolchain.
+fn told(page: &str) -> Vec<String> {
+    let paragraphs = paragraphs(section(page, HEADING));
+    let told = paragraphs
+        .iter()
+        .find_map(|text| text.trim().strip_prefix(TOOLCHAIN));
+    let spans = told.expect(TOOLCHAIN).split('`').skip(1).step_by(2);
+    spans.map(str::to_owned).collect()
+}
+
+/// The toolchain's modules that the table's files import, and its crates that theirs depend on.
+fn used(page: &str) -> BTreeSet<String> {
+    let crates = crates();
+    let mut found = BTreeSet::new();
+    for path in listed(page) {
+        found.extend(modules(&read(&path)));
+        let name = path.split('/').nth(1).expect("a crate");
+        let others = dependencies(name).into_iter();
+        found.extend(others.filter(|other| !crates.contains(other)));
+    }
+    found
 }
 
 #[test]
 fn lines_are_as_said() {
-    let table = table();
-    assert!(table.len() > 10, "a table");
-    for row in table.iter().skip(1) {
-        let found: usize = paths(&row[1]).iter().map(lines).sum();
-        assert_eq!(row[2], found.to_string(), "{}", row[0]);
+    for row in table(&page()) {
+        let lines = paths(&row[1])
+            .iter()
+            .map(|path| read(path).lines().count())
+            .sum::<usize>();
+        assert_eq!(row[2], lines.to_string(), "{}", row[0]);
     }
 }
 
 #[test]
+fn every_file_is_listed_or_inner() {
+    let page = page();
+    assert_eq!(left_out(&page), BTreeSet::new());
+    assert_eq!(&inner() & &listed(&page), BTreeSet::new(), "both");
+    assert_eq!(&inner() - &there(), BTreeSet::new(), "inner and not there");
+    let paths: Vec<String> = table(&page).iter().flat_map(|row| paths(&row[1])).collect();
+    assert_eq!(paths.len(), listed(&page).len(), "a file listed twice");
+}
+
+#[test]
 fn nothing_that_is_imported_is_left_out() {
-    let listed: BTreeSet<PathBuf> = table()
-        .iter()
-        .skip(1)
-        .flat_map(|row| paths(&row[1]))
-        .collect();
+    let listed = listed(&page());
     for path in &listed {
-        for needed in imports(&read(path)) {
-            let ours = top().join(&needed).exists();
-            assert!(
-                !ours || listed.contains(&needed),
-                "{} needs {}",
-                path.display(),
-                needed.display()
-            );
-        }
+        let lost = &imports(&read(path)) - &listed;
+        assert_eq!(lost, BTreeSet::new(), "{path}");
     }
+}
+
+#[test]
+fn what_is_named_with_its_place_is_listed() {
+    assert_eq!(named_outside(&page()), Vec::<String>::new());
+}
+
+#[test]
+fn the_toolchain_is_told() {
+    let page = page();
+    let used: Vec<String> = used(&page).into_iter().collect();
+    assert_eq!(told(&page), used);
+}
+
+#[test]
+fn a_row_that_vanished_is_found() {
+    let page = page();
+    let kept = page.lines().filter(|line| !line.starts_with("| runs:"));
+    let without: Vec<&str> = kept.collect();
+    let without = without.join("\n");
+    assert_eq!(
+        left_out(&without),
+        BTreeSet::from(["crates/runs/specs/Runs.antt".to_owned()])
+    );
+    let without = page.replace("; ring_check; ring;", "; ring_check;");
+    let code = BTreeSet::from(["crates/ring/src/lib.rt".to_owned()]);
+    assert_eq!(left_out(&without), code);
+    let named = format!("{page}\n`Ran` (crates/ring_driver/specs/Ran.antt)\n");
+    assert_eq!(named_outside(&named), ["Ran"]);
+}
+
+#[test]
+fn imports_are_found() {
+    let text = "use Rattle.ring.specs.View.{state}\nghost use Rattle.refusal.specs.declared.{A};\nuse ring_check::Rest;\n\
+                use ring_check::refused;\nuse Rattle.io.specs.Counts.{c}\nuse lib.Dec.{eqb}\nuse lib.ListN as l\n-- use lib.No.{x}\n";
+    let files = [
+        "refusal/src/lib.rt",
+        "ring/specs/View.antt",
+        "ring_check/src/lib.rt",
+    ];
+    let found: Vec<String> = imports(text).into_iter().collect();
+    assert_eq!(found, files.map(|file| format!("crates/{file}")));
+    let found: Vec<String> = modules(text).into_iter().collect();
+    assert_eq!(found, ["Rattle.io.specs.Counts", "lib.Dec", "lib.ListN"]);
 }

@@ -149,10 +149,11 @@ fn undeclared(page: &str) -> Vec<String> {
 fn nameless(page: &str) -> Vec<String> {
     let is_text =
         |span: &str| span.starts_with('(') || span.starts_with("b\"") || TEXTS.contains(&span);
+    let is_known = |span: &str| WORDS.contains(&span) || declared().modules.contains(span);
     paragraphs(page)
         .iter()
         .flat_map(|paragraph| spans(paragraph))
-        .filter(|span| !is_name(span) && !WORDS.contains(span) && !is_text(span))
+        .filter(|span| !is_name(span) && !is_known(span) && !is_text(span))
         .map(str::to_owned)
         .collect()
 }
