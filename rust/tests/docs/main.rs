@@ -6,6 +6,7 @@ mod believed;
 mod declared;
 mod edits;
 mod header;
+mod items;
 mod layout;
 mod names;
 mod places;
