@@ -46,6 +46,12 @@ fn named_in(cell: &str) -> Result<Vec<Edit>, String> {
 /// The edits in the last cells of the tables whose last column is headed so.
 fn named(page: &str) -> Result<BTreeSet<Edit>, String> {
     let mut found = BTreeSet::new();
+    if let Some(line) = page
+        .lines()
+        .find(|line| line.trim_start() != *line && line.contains('|'))
+    {
+        return Err(format!("a row that begins with a space: {line}"));
+    }
     for table in tables(page) {
         let head = table[0].last().expect("a cell");
         if COLUMNS.contains(&head.as_str()) {
@@ -126,6 +132,7 @@ fn a_cell_is_read_strictly() {
     let page = |head: &str| format!("| A | {head} |\n|---|---|\n| a | ring: One |\n");
     assert!(named(&page("Refused wrong answers")).is_err());
     assert_eq!(named(&page("Other")), Ok(BTreeSet::new()));
+    assert!(named(" | a | ring: one |\n").is_err());
 }
 
 /// The number that the page tells.

@@ -4,7 +4,7 @@
 
 use crate::declared::{declared, File, Name};
 use crate::places::{is_name, misplaced};
-use crate::repository::{cells, crates, files, read, top};
+use crate::repository::{cells, crates, files, read, tables, top};
 use std::collections::BTreeSet;
 
 /// What stands in code spans and is not declared by a crate: tools, types and words of the languages, words of a log's end line.
@@ -233,6 +233,7 @@ fn a_name_stands_in_its_place() {
         format!("`Pumped` and\n`Ran` ({run})"),
         format!("(`Ran`, {run})"),
         format!("`Ran` in {run}"),
+        format!("`Ran` (what came of it, see {run})"),
         "`Turned` (crates/watch/specs/Turn.antt); `Ran` (Run.antt)".to_owned(),
     ] {
         assert_eq!(undeclared(&page).len(), 1, "{page}");
@@ -255,6 +256,18 @@ fn a_name_stands_in_its_place() {
 #[test]
 fn a_capital_is_a_statement_or_a_type() {
     assert_eq!(undeclared("`WholeRuns`, `Conclusive`, `K`"), ["K"]);
+}
+
+#[test]
+fn promises_has_columns_of_both() {
+    let tables = tables(&read("docs/PROMISES.md"));
+    let of_both =
+        |table: &&Vec<Vec<String>>| table[0].ends_with(&["Ring", "Tree"].map(str::to_owned));
+    assert_eq!(
+        tables.iter().filter(of_both).count(),
+        3,
+        "one for each demand"
+    );
 }
 
 #[test]

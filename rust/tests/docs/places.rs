@@ -44,14 +44,23 @@ fn bare(file: &str, owner: Option<&str>) -> String {
     owner.map_or(file.to_owned(), |owner| format!("{owner}/specs/{file}"))
 }
 
-/// The places that a text begins with, after the crate that was named last: each of several files, one of several folders; a file `of` crates
+/// What stands beside a span: after a comma, a colon or `in`, or in a bracket, from the first place in it on.
+fn beside(text: &str) -> &str {
+    let starts = [", ", " in ", ": "];
+    if let Some(inside) = text.strip_prefix(" (") {
+        let inside = inside.split(')').next().unwrap_or(inside);
+        let spaces = inside.match_indices(' ').map(|(at, _)| at + 1);
+        let mut texts = [0].into_iter().chain(spaces).map(|at| &inside[at..]);
+        return texts.find(|text| word(text).is_some()).unwrap_or_default();
+    }
+    let rest = starts.iter().find_map(|start| text.strip_prefix(start));
+    rest.unwrap_or_default()
+}
+
+/// The places that stand beside a span, after the crate that was named last: each of several files, one of several folders; a file `of` crates
 /// in one of them, a file `in` crates in each.
 fn places(text: &str, last: Option<&str>) -> Vec<Place> {
-    let starts = [" (", ", ", " in ", ": "];
-    let Some(text) = starts.iter().find_map(|start| text.strip_prefix(start)) else {
-        return Vec::new();
-    };
-    let (found, rest) = words(text);
+    let (found, rest) = words(beside(text));
     let (mut each, mut one) = (Vec::new(), Vec::new());
     let mut last = last.map(str::to_owned);
     let of = [" of ", " in "].map(|between| rest.strip_prefix(between).map(|rest| words(rest).0));

@@ -80,7 +80,7 @@ pub fn section<'a>(page: &'a str, heading: &str) -> &'a str {
 /// The rows of tables, each with its cells; without the rows of dashes.
 pub fn rows(text: &str) -> Vec<Vec<String>> {
     text.lines()
-        .filter(|line| line.starts_with('|') && !line.starts_with("|-"))
+        .filter(|line| line.starts_with('|') && !line.chars().all(|c| "|-".contains(c)))
         .map(cells)
         .collect()
 }
