@@ -215,21 +215,38 @@ fn the_toolchain_is_told() {
     assert_eq!(told(&page), used);
 }
 
+/// A page whose table has these files, a row for each.
+fn page_of(files: &BTreeSet<String>) -> String {
+    let row = |path: &String| {
+        let parts: Vec<&str> = path.split('/').collect();
+        let file = parts[3].strip_suffix(".antt");
+        let file = file.map(|file| format!(": {file}")).unwrap_or_default();
+        format!("| a | {}{file} | 1 |\n", parts[1])
+    };
+    let rows: String = files.iter().map(row).collect();
+    format!("\n{HEADING}\n\n| To believe | Files | Lines |\n|---|---|---|\n{rows}")
+}
+
 #[test]
 fn a_row_that_vanished_is_found() {
-    let page = page();
-    let kept = page.lines().filter(|line| !line.starts_with("| runs:"));
-    let without: Vec<&str> = kept.collect();
-    let without = without.join("\n");
+    let all = &there() - &inner();
+    assert_eq!(left_out(&page_of(&all)), BTreeSet::new());
+    for path in ["crates/runs/specs/Runs.antt", "crates/ring/src/lib.rt"] {
+        let one = BTreeSet::from([path.to_owned()]);
+        assert_eq!(left_out(&page_of(&(&all - &one))), one);
+    }
+    let page = page_of(&all)
+        + "\n`Pumped` (crates/watch/specs/Run.antt), `Ran` (crates/ring_driver/specs/Ran.antt)\n";
+    assert_eq!(named_outside(&page), ["Ran"]);
+}
+
+#[test]
+fn what_is_told_of_the_toolchain_is_read() {
+    let told_of = |text: &str| told(&format!("\n{HEADING}\n\n| a |\n|---|\n\n{text}\n"));
     assert_eq!(
-        left_out(&without),
-        BTreeSet::from(["crates/runs/specs/Runs.antt".to_owned()])
+        told_of(&format!("{TOOLCHAIN} `lib.Dec`,\n`io`.")),
+        ["lib.Dec", "io"]
     );
-    let without = page.replace("; ring_check; ring;", "; ring_check;");
-    let code = BTreeSet::from(["crates/ring/src/lib.rt".to_owned()]);
-    assert_eq!(left_out(&without), code);
-    let named = format!("{page}\n`Ran` (crates/ring_driver/specs/Ran.antt)\n");
-    assert_eq!(named_outside(&named), ["Ran"]);
 }
 
 #[test]

@@ -1,6 +1,6 @@
-//! What the docs say of the repository is so: the names that they give are there, the page of edits names every must-fail edit, the files
-//! that a reader has to believe are all named and as long as is said, every statement is proved under its own name, and every crate stands
-//! on one floor.
+//! What the docs say of the repository is so: the names that they give are declared, where is said, the page of edits names every must-fail
+//! edit, the files that a reader has to believe are all named and as long as is said, every statement is proved under its own name, every crate
+//! stands on one floor and is timed, and the refusals and the header's constants have the proved numbers.
 
 mod believed;
 mod declared;
