@@ -7,8 +7,9 @@
  * struct on, one by one, and put a pointer of their own where a length is 0.
  *
  * A call
- *   - is answered with a number: 0 if it is accepted, else the number of the first check that it fails (enum muzserlik_answer). The driver
- *     answers with 100, 101 or 102, or with a refusal. Soundness is answered with 1 or 0;
+ *   - is answered with a number: 0 if it is accepted, else the number of the first check that it fails (enum muzserlik_answer). The checks of a
+ *     call are made in the order of their numbers; in reading, the first fault from the left decides. The driver answers with 100, 101 or 102,
+ *     or with a refusal. Soundness is answered with 1 or 0;
  *   - that is refused leaves every byte that it was lent as it was;
  *   - judges whatever a struct holds: one that is not sound is refused with 3. One that was filled or changed by hand may happen to be sound, and is
  *     then taken as it is: let only these calls change a struct;
@@ -17,9 +18,9 @@
  *
  * The caller sees to it that
  *   - a pointer points to as much memory as its type or the length beside it says, aligned as its type asks (a struct that is declared as one
- *     is), and is not null; with a length of 0 any pointer will do, also a null one;
- *   - what is written to overlaps nothing else of the same call: `moves`, `length`, `buffer`, `engager` and `root` lie outside the struct, and
- *     apart from each other and from the text. The fields of a struct do not overlap;
+ *     is), and is not null; with a length of 0 the inline functions take any pointer, also a null one;
+ *   - what is written to overlaps nothing else of the same call: `moves`, or `buffer` and `length`, lie outside the struct and apart from each
+ *     other; `engager` and `root` apart from each other and from the text. The fields of a struct do not overlap;
  *   - nobody else writes to what is lent before the call returns.
  * Where this is not so no call can tell, and nothing is promised.
  *
@@ -151,7 +152,7 @@ struct muzserlik_tree {
     uint8_t closed;                          /* 1 once an announcement is accepted, else 0 */
 };
 
-/* ---- What the archive has. Call the inline functions below instead. */
+/* ---- What the archive has. Call the inline functions below instead: these take no null pointer, not even with a length of 0. */
 
 uint8_t muzserlik_ring_start_fields(size_t nodes, const uint8_t *flags, size_t count, size_t *n, uint8_t *active, uint8_t *color,
                                     uint32_t *sent, uint32_t *received, uint32_t *pending, size_t *pos, int64_t *q, uint8_t *black,
