@@ -1,12 +1,36 @@
 /*
  * Each function of muzserlik.h called, its answer and every field after it compared with what the rules give, worked by hand. The ring and the
- * tree are led to states whose fields differ from each other, so that no field can stand in another's place.
+ * tree are led or set to states whose fields differ from each other, so that no field can stand in another's place: two arguments of an inline
+ * function that change places are noticed. Only those columns can that a start fills alike: sent, received and pending; unacked and acks.
  */
 #include "muzserlik.h"
 
 #include <stdio.h>
 #include <stdlib.h>
 #include <string.h>
+
+/* The fields are as long as those that the archive reads and writes. */
+#define LONG(type, field, bytes) _Static_assert(sizeof(((struct type *)0)->field) == (bytes), #type ": " #field)
+
+LONG(muzserlik_ring, n, 8);
+LONG(muzserlik_ring, active, 96);
+LONG(muzserlik_ring, color, 12);
+LONG(muzserlik_ring, sent, 4 * 96);
+LONG(muzserlik_ring, received, 4 * 96);
+LONG(muzserlik_ring, pending, 4 * 96);
+LONG(muzserlik_ring, pos, 8);
+LONG(muzserlik_ring, q, 8);
+LONG(muzserlik_ring, black, 1);
+LONG(muzserlik_ring, closed, 1);
+LONG(muzserlik_tree, n, 8);
+LONG(muzserlik_tree, root, 8);
+LONG(muzserlik_tree, active, 16);
+LONG(muzserlik_tree, engager, 16);
+LONG(muzserlik_tree, unacked, 4 * 16);
+LONG(muzserlik_tree, transit, 4 * 16 * 16);
+LONG(muzserlik_tree, acks, 4 * 16);
+LONG(muzserlik_tree, sends, 4);
+LONG(muzserlik_tree, closed, 1);
 
 static int checks = 0;
 
@@ -63,19 +87,21 @@ static int tree_refusal(struct muzserlik_tree *tree, size_t kind, size_t i, size
 static void ring_starts(struct muzserlik_ring *ring)
 {
     const uint8_t flags[] = {1, 2, 3}, high[] = {1, 4, 0};
-    uint8_t many[97] = {0};
+    uint8_t many[MUZSERLIK_RING_NODES + 1] = {[MUZSERLIK_RING_NODES - 1] = 2};
     struct muzserlik_ring noise;
     memset(&noise, 0xa5, sizeof noise);
     *ring = noise;
     CHECK(muzserlik_ring_start(ring, 0, flags, 0) == MUZSERLIK_REFUSED_NODE_COUNT);
-    CHECK(muzserlik_ring_start(ring, 97, many, 97) == MUZSERLIK_REFUSED_NODE_COUNT);
+    CHECK(muzserlik_ring_start(ring, sizeof many, many, sizeof many) == MUZSERLIK_REFUSED_NODE_COUNT);
     CHECK(muzserlik_ring_start(ring, (size_t)-1, flags, 3) == MUZSERLIK_REFUSED_NODE_COUNT);
     CHECK(muzserlik_ring_start(ring, 3, flags, 2) == MUZSERLIK_REFUSED_START_FLAGS);
     CHECK(muzserlik_ring_start(ring, 2, flags, 3) == MUZSERLIK_REFUSED_START_FLAGS);
     CHECK(muzserlik_ring_start(ring, 3, NULL, 0) == MUZSERLIK_REFUSED_START_FLAGS);
     CHECK(muzserlik_ring_start(ring, 3, high, 3) == MUZSERLIK_REFUSED_START_FLAGS);
     CHECK(same_rings(ring, &noise));
-    CHECK(muzserlik_ring_start(ring, 96, many, 96) == MUZSERLIK_ACCEPTED);
+    CHECK(muzserlik_ring_start(ring, MUZSERLIK_RING_NODES, many, MUZSERLIK_RING_NODES) == MUZSERLIK_ACCEPTED);
+    const struct muzserlik_ring most = {.n = 96, .color = {[MUZSERLIK_RING_COLOR_BYTES - 1] = 128}, .black = 1};
+    CHECK(same_rings(ring, &most) && muzserlik_ring_is_sound(ring) == 1);
     *ring = noise;
     CHECK(muzserlik_ring_start(ring, 3, flags, 3) == MUZSERLIK_ACCEPTED);
     const struct muzserlik_ring first = {.n = 3, .active = {1, 0, 1}, .color = {6}, .black = 1};
@@ -125,7 +151,7 @@ static void ring_unsound(struct muzserlik_ring *ring)
 static void ring_drives(struct muzserlik_ring *ring)
 {
     uint32_t moves = 77;
-    CHECK(drive_refusal(ring, 1001) == MUZSERLIK_REFUSED_MOVE_LIMIT);
+    CHECK(drive_refusal(ring, MUZSERLIK_MOVE_LIMIT + 1) == MUZSERLIK_REFUSED_MOVE_LIMIT);
     CHECK(drive_refusal(ring, ((size_t)1 << 32) + 5) == MUZSERLIK_REFUSED_MOVE_LIMIT);
     CHECK(muzserlik_ring_drive(ring, 10, &moves) == MUZSERLIK_WAITING && moves == 0);
     CHECK(muzserlik_ring_step(ring, MUZSERLIK_IDLE, 1, 0) == MUZSERLIK_ACCEPTED);
@@ -138,12 +164,62 @@ static void ring_drives(struct muzserlik_ring *ring)
     CHECK(muzserlik_ring_step(ring, MUZSERLIK_IDLE, 0, 0) == MUZSERLIK_ACCEPTED);
     CHECK(ring_refusal(ring, MUZSERLIK_ANNOUNCE, 0, 0) == MUZSERLIK_REFUSED_RULE_FAILS);
     /* two rounds: node 1 blackens the token in the first */
-    CHECK(muzserlik_ring_drive(ring, 1000, &moves) == MUZSERLIK_CONCLUSIVE && moves == 6);
+    CHECK(muzserlik_ring_drive(ring, MUZSERLIK_MOVE_LIMIT, &moves) == MUZSERLIK_CONCLUSIVE && moves == 6);
     CHECK(muzserlik_ring_step(ring, MUZSERLIK_ANNOUNCE, 0, 0) == MUZSERLIK_ACCEPTED);
     const struct muzserlik_ring last = {.n = 3, .sent = {1, 0, 1}, .received = {0, 2, 0}, .q = -1, .closed = 1};
     CHECK(same_rings(ring, &last));
     CHECK(ring_refusal(ring, MUZSERLIK_PROBE, 0, 0) == MUZSERLIK_REFUSED_CLOSED);
     CHECK(drive_refusal(ring, 5) == MUZSERLIK_REFUSED_CLOSED);
+}
+
+/* A ring set by hand. With received and pending in each other's place it would not be sound: none of Safra's four would hold. */
+static void ring_by_hand(struct muzserlik_ring *ring)
+{
+    const struct muzserlik_ring first = {.n = 4,
+                                         .active = {1, 0, 1, 0},
+                                         .color = {8},
+                                         .sent = {5, 6, 7, 4},
+                                         .received = {0, 0, 0, 9},
+                                         .pending = {2, 3, 8, 0},
+                                         .pos = 2,
+                                         .q = -5};
+    uint32_t moves = 77;
+    *ring = first;
+    CHECK(muzserlik_ring_is_sound(ring) == 1);
+    CHECK(muzserlik_ring_step(ring, MUZSERLIK_TAKE, 2, 99) == MUZSERLIK_ACCEPTED);
+    const struct muzserlik_ring taken = {.n = 4,
+                                         .active = {1, 0, 1, 0},
+                                         .color = {12},
+                                         .sent = {5, 6, 7, 4},
+                                         .received = {0, 0, 1, 9},
+                                         .pending = {2, 3, 7, 0},
+                                         .pos = 2,
+                                         .q = -5};
+    CHECK(same_rings(ring, &taken) && muzserlik_ring_is_sound(ring) == 1);
+    CHECK(muzserlik_ring_step(ring, MUZSERLIK_IDLE, 2, 99) == MUZSERLIK_ACCEPTED);
+    CHECK(muzserlik_ring_drive(ring, 2, &moves) == MUZSERLIK_SPENT && moves == 2);
+    const struct muzserlik_ring driven = {.n = 4,
+                                          .active = {1},
+                                          .color = {8},
+                                          .sent = {5, 6, 7, 4},
+                                          .received = {0, 0, 1, 9},
+                                          .pending = {2, 3, 7, 0},
+                                          .q = 7,
+                                          .black = 1};
+    CHECK(same_rings(ring, &driven) && muzserlik_ring_is_sound(ring) == 1);
+}
+
+/* Sound by the first of Safra's four alone, by none, by the last alone: q and black decide. */
+static void ring_clauses(struct muzserlik_ring *ring)
+{
+    const struct muzserlik_ring settled = {
+        .n = 4, .active = {1, 0, 1, 0}, .color = {8}, .sent = {1, 2, 3, 9}, .received = {5, 4, 6, 0}, .pos = 2, .q = 9};
+    *ring = settled;
+    CHECK(muzserlik_ring_is_sound(ring) == 1);
+    ring->q = 0;
+    CHECK(muzserlik_ring_is_sound(ring) == 0);
+    ring->black = 1;
+    CHECK(muzserlik_ring_is_sound(ring) == 1);
 }
 
 /* A sound ring at the limit of sends. */
@@ -162,7 +238,7 @@ static void tree_starts(struct muzserlik_tree *tree)
     memset(&noise, 0xa5, sizeof noise);
     *tree = noise;
     CHECK(muzserlik_tree_start(tree, 0, 0) == MUZSERLIK_REFUSED_NODE_COUNT);
-    CHECK(muzserlik_tree_start(tree, 17, 0) == MUZSERLIK_REFUSED_NODE_COUNT);
+    CHECK(muzserlik_tree_start(tree, MUZSERLIK_TREE_NODES + 1, 0) == MUZSERLIK_REFUSED_NODE_COUNT);
     CHECK(muzserlik_tree_start(tree, 3, 3) == MUZSERLIK_REFUSED_UNKNOWN_NODE);
     CHECK(muzserlik_tree_start(tree, 3, (size_t)-1) == MUZSERLIK_REFUSED_UNKNOWN_NODE);
     CHECK(same_trees(tree, &noise));
@@ -198,6 +274,7 @@ static void tree_steps(struct muzserlik_tree *tree)
     CHECK(tree_refusal(tree, MUZSERLIK_SEND, 1, 1) == MUZSERLIK_REFUSED_SELF_MESSAGE);
     CHECK(tree_refusal(tree, MUZSERLIK_ACK, 2, 0) == MUZSERLIK_REFUSED_RULE_FAILS);
     tree->sends = MUZSERLIK_SEND_LIMIT;
+    CHECK(muzserlik_tree_is_sound(tree) == 1);
     CHECK(tree_refusal(tree, MUZSERLIK_SEND, 1, 0) == MUZSERLIK_REFUSED_SEND_LIMIT);
     tree->sends = 4;
 }
@@ -215,7 +292,7 @@ static void tree_texts(struct muzserlik_tree *tree)
     CHECK(length == 77 && memcmp(buffer, noise, sizeof buffer) == 0);
     CHECK(muzserlik_tree_write(tree, buffer, sizeof buffer, &length) == MUZSERLIK_ACCEPTED);
     CHECK(length == 11 && memcmp(buffer, "(1 (2 (0)))", 11) == 0 && memcmp(buffer + 11, noise, 5) == 0);
-    CHECK(muzserlik_tree_read(17, buffer, length, engager, &root) == MUZSERLIK_REFUSED_NODE_COUNT);
+    CHECK(muzserlik_tree_read(MUZSERLIK_TREE_NODES + 1, buffer, length, engager, &root) == MUZSERLIK_REFUSED_NODE_COUNT);
     CHECK(muzserlik_tree_read(2, buffer, length, engager, &root) == MUZSERLIK_REFUSED_UNKNOWN_NODE);
     CHECK(muzserlik_tree_read(3, buffer, length + 1, engager, &root) == MUZSERLIK_REFUSED_NOT_A_FORM);
     CHECK(muzserlik_tree_read(3, NULL, 0, engager, &root) == MUZSERLIK_REFUSED_NOT_A_FORM);
@@ -239,10 +316,32 @@ static void tree_ends(struct muzserlik_tree *tree)
                  {MUZSERLIK_ACK, 1, 0}};
     for (size_t k = 0; k < sizeof steps / sizeof steps[0]; k++)
         CHECK(muzserlik_tree_step(tree, steps[k].kind, steps[k].i, steps[k].j) == MUZSERLIK_ACCEPTED);
+    CHECK(tree->engager[0] == MUZSERLIK_TREE_NONE && tree->engager[2] == MUZSERLIK_TREE_NONE);
     CHECK(tree_refusal(tree, MUZSERLIK_ANNOUNCE, 0, 0) == MUZSERLIK_REFUSED_RULE_FAILS);
     CHECK(muzserlik_tree_step(tree, MUZSERLIK_ACK, 1, 0) == MUZSERLIK_ACCEPTED);
     CHECK(muzserlik_tree_step(tree, MUZSERLIK_ANNOUNCE, 0, 0) == MUZSERLIK_ACCEPTED);
     CHECK(tree->closed == 1 && tree_refusal(tree, MUZSERLIK_ACK, 1, 0) == MUZSERLIK_REFUSED_CLOSED);
+}
+
+/* Each of 16 nodes engages the next one: no text is longer. */
+static void tree_longest(struct muzserlik_tree *tree)
+{
+    const char text[] = "(0 (1 (2 (3 (4 (5 (6 (7 (8 (9 (10 (11 (12 (13 (14 (15))))))))))))))))";
+    uint8_t buffer[MUZSERLIK_TREE_TEXT_BYTES + 1], noise[sizeof buffer], engager[MUZSERLIK_TREE_NODES];
+    size_t length = 77, root = 77, room = MUZSERLIK_TREE_TEXT_BYTES;
+    memset(buffer, 0xa5, sizeof buffer);
+    memset(noise, 0xa5, sizeof noise);
+    CHECK(muzserlik_tree_start(tree, MUZSERLIK_TREE_NODES, 0) == MUZSERLIK_ACCEPTED);
+    for (size_t i = 1; i < MUZSERLIK_TREE_NODES; i++) {
+        CHECK(muzserlik_tree_step(tree, MUZSERLIK_SEND, i - 1, i) == MUZSERLIK_ACCEPTED);
+        CHECK(muzserlik_tree_step(tree, MUZSERLIK_TAKE, i, i - 1) == MUZSERLIK_ACCEPTED);
+    }
+    CHECK(muzserlik_tree_write(tree, buffer, room - 1, &length) == MUZSERLIK_REFUSED_SHORT_BUFFER);
+    CHECK(length == 77 && memcmp(buffer, noise, sizeof buffer) == 0);
+    CHECK(muzserlik_tree_write(tree, buffer, room, &length) == MUZSERLIK_ACCEPTED);
+    CHECK(length == room && strlen(text) == room && memcmp(buffer, text, room) == 0 && buffer[room] == 0xa5);
+    CHECK(muzserlik_tree_read(MUZSERLIK_TREE_NODES, buffer, length, engager, &root) == MUZSERLIK_ACCEPTED);
+    CHECK(root == 0 && memcmp(engager, tree->engager, sizeof engager) == 0);
 }
 
 int main(void)
@@ -252,12 +351,15 @@ int main(void)
     ring_steps(&ring);
     ring_unsound(&ring);
     ring_drives(&ring);
+    ring_by_hand(&ring);
+    ring_clauses(&ring);
     ring_limit(&ring);
     struct muzserlik_tree tree;
     tree_starts(&tree);
     tree_steps(&tree);
     tree_texts(&tree);
     tree_ends(&tree);
+    tree_longest(&tree);
     printf("calls from C: %d checks\n", checks);
     return EXIT_SUCCESS;
 }
