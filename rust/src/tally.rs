@@ -264,8 +264,13 @@ impl RingCases {
         match request.kind {
             ANNOUNCE if !accepted => {
                 let active = ring.active[0];
-                self.announce
-                    .count([!home, token.black, node_black, sum != 0, active]);
+                // Messages pending at node 0 refuse it too, but never alone: with the other
+                // conditions met only the first of Safra's four can hold, so the counters of
+                // the other nodes add up to q, those of all to 0, and nothing is in transit.
+                if ring.pending[0] == 0 {
+                    self.announce
+                        .count([!home, token.black, node_black, sum != 0, active]);
+                }
                 let quiet = ring.in_transit() == 0 && !ring.active.contains(&true);
                 self.not_quiet.count([home && !quiet]);
             }
