@@ -3,6 +3,7 @@
 enum Bound {
     AtLeast(usize),
     AtMost(usize),
+    Exactly(usize),
 }
 
 struct Figure {
@@ -17,6 +18,7 @@ impl Figure {
             None => true,
             Some(Bound::AtLeast(least)) => self.count >= least,
             Some(Bound::AtMost(most)) => self.count <= most,
+            Some(Bound::Exactly(asked)) => self.count == asked,
         }
     }
 
@@ -25,6 +27,7 @@ impl Figure {
             None => String::new(),
             Some(Bound::AtLeast(least)) => format!("at least {least}"),
             Some(Bound::AtMost(most)) => format!("at most {most}"),
+            Some(Bound::Exactly(asked)) => format!("exactly {asked}"),
         }
     }
 }
@@ -57,6 +60,10 @@ impl Report {
         self.add(name.into(), count, Some(Bound::AtMost(most)));
     }
 
+    pub fn exactly(&mut self, name: impl Into<String>, count: usize, asked: usize) {
+        self.add(name.into(), count, Some(Bound::Exactly(asked)));
+    }
+
     fn add(&mut self, name: String, count: usize, bound: Option<Bound>) {
         self.0.push(Figure { name, count, bound });
     }
@@ -86,11 +93,17 @@ mod tests {
         report.told("told", 0);
         report.at_least("least", 5, 5);
         report.at_most("most", 5, 5);
+        report.exactly("asked", 5, 5);
         assert!(report.holds());
         report.at_least("below", 4, 5);
         assert!(!report.holds());
         let mut report = Report::default();
         report.at_most("above", 6, 5);
         assert!(!report.holds());
+        for count in [4, 6] {
+            let mut report = Report::default();
+            report.exactly("beside", count, 5);
+            assert!(!report.holds());
+        }
     }
 }

@@ -8,9 +8,9 @@
 //! - the initial states are level 1, and the diameter is the deepest level;
 //! - InitiateProbe gives one successor for each true disjunct of its condition.
 //!
-//! No other way of counting agrees with the published table, whose figures are
-//! cut to one decimal: 60, 1,384,582 and 10,150,343 are its 60, 1.3m and 10.1m.
+//! No other way of counting agrees with the published table.
 
+use crate::report::Report;
 use crate::request::{Request, ANNOUNCE, IDLE, PASS, PROBE, SEND, TAKE};
 use crate::ring::Ring;
 use std::collections::HashSet;
@@ -19,11 +19,31 @@ use std::hash::{BuildHasherDefault, Hasher};
 const N: usize = 3;
 
 /// The three figures of document 001's table.
-#[derive(Clone, Copy, Debug, PartialEq, Eq)]
 pub struct Figures {
-    pub diameter: u32,
-    pub distinct: usize,
-    pub generated: usize,
+    diameter: usize,
+    distinct: usize,
+    generated: usize,
+}
+
+/// The table publishes them cut to one decimal: 60, 1.3 million and 10.1 million.
+const FULL: Figures = Figures {
+    diameter: 60,
+    distinct: 1_384_582,
+    generated: 10_150_343,
+};
+
+impl Figures {
+    /// Each has to be the published one in full; `step` names what was walked with.
+    pub fn report(&self, step: &str, report: &mut Report) {
+        let figures = [
+            ("diameter", self.diameter, FULL.diameter),
+            ("distinct states", self.distinct, FULL.distinct),
+            ("generated states", self.generated, FULL.generated),
+        ];
+        for (name, found, asked) in figures {
+            report.exactly(format!("EWD998, N = 3, by {step}: {name}"), found, asked);
+        }
+    }
 }
 
 /// Walks all states with the given step, which answers the next state or none if it refuses.
