@@ -3,7 +3,7 @@
 use crate::answers::Answers;
 use crate::lent::LentRing;
 use crate::requests::{request, Course};
-use crate::same::{same_soundness, same_start, same_step};
+use crate::same::{other, same_soundness, same_start, same_step};
 use crate::{fail, proved, LEAST, LEAST_ANNOUNCED, LEAST_BROKEN, STARTS, STEPS};
 use second::generate::Rng;
 use second::refusal::Refusal;
@@ -99,18 +99,21 @@ impl Rings {
         same_calls(self.seed, &noise, request(&ring, false, random), random);
     }
 
-    /// The ring with one field broken, or two.
+    /// The ring with one field broken, or two, and one in balance; both differ from it.
     fn wild(&mut self, ring: &Ring, random: &mut Rng) {
         let field = random.below(FIELDS.len());
-        let mut wild = broken(ring, field, random);
-        if random.chance(20) {
-            wild = broken(&wild, random.below(FIELDS.len()), random);
-        } else if !wild.is_sound() {
+        let next = (field + 1 + random.below(FIELDS.len() - 1)) % FIELDS.len();
+        let alone = random.chance(80);
+        let wild = other(ring, || match (broken(ring, field, random), alone) {
+            (wild, true) => wild,
+            (wild, false) => broken(&wild, next, random),
+        });
+        if alone && !wild.is_sound() {
             self.broken[field] += 1;
         }
         let lent = LentRing::of(&wild);
         self.soundness.count(same_soundness(self.seed, &lent));
-        let in_balance = LentRing::of(&balanced(ring, random));
+        let in_balance = LentRing::of(&other(ring, || balanced(ring, random)));
         self.balanced.count(same_soundness(self.seed, &in_balance));
         let request = request(ring, false, random);
         self.wild_steps.count(same_step(self.seed, &lent, request));

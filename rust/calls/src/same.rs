@@ -79,6 +79,16 @@ impl Lent for LentTree {
     }
 }
 
+/// Drawn again until it differs from the state.
+pub fn other<S: PartialEq>(state: &S, mut draw: impl FnMut() -> S) -> S {
+    loop {
+        let drawn = draw();
+        if drawn != *state {
+            return drawn;
+        }
+    }
+}
+
 /// A start into noise, which a refusal leaves.
 pub fn same_start<L: Lent>(
     seed: u64,

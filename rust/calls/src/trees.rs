@@ -3,7 +3,7 @@
 use crate::answers::Answers;
 use crate::lent::LentTree;
 use crate::requests::{request, Course};
-use crate::same::{same_soundness, same_start, same_step};
+use crate::same::{other, same_soundness, same_start, same_step};
 use crate::{proved, LEAST_ANNOUNCED, LEAST_BROKEN, STARTS, STEPS};
 use second::generate::Rng;
 use second::report::Report;
@@ -94,18 +94,21 @@ impl Trees {
         same_calls(self.seed, &noise, request(&tree, false, random));
     }
 
-    /// The tree with one field broken, or two.
+    /// The tree with one field broken, or two, and one in balance; both differ from it.
     fn wild(&mut self, tree: &Tree, random: &mut Rng) {
         let field = random.below(FIELDS.len());
-        let mut wild = broken(tree, field, random);
-        if random.chance(20) {
-            wild = broken(&wild, random.below(FIELDS.len()), random);
-        } else if !wild.is_sound() {
+        let next = (field + 1 + random.below(FIELDS.len() - 1)) % FIELDS.len();
+        let alone = random.chance(80);
+        let wild = other(tree, || match (broken(tree, field, random), alone) {
+            (wild, true) => wild,
+            (wild, false) => broken(&wild, next, random),
+        });
+        if alone && !wild.is_sound() {
             self.broken[field] += 1;
         }
         let lent = LentTree::of(&wild);
         self.soundness.count(same_soundness(self.seed, &lent));
-        let in_balance = LentTree::of(&balanced(tree, random));
+        let in_balance = LentTree::of(&other(tree, || balanced(tree, random)));
         self.balanced.count(same_soundness(self.seed, &in_balance));
         let request = request(tree, false, random);
         self.wild_steps.count(same_step(self.seed, &lent, request));
