@@ -9,7 +9,9 @@ use second::report::Report;
 use second::text;
 use second::tree::{Tree, MAX_NODES};
 
-const TREES: usize = 20_000;
+const TREES: usize = 30_000;
+/// Texts that are written and then read back.
+const LEAST_WRITTEN: usize = 20_000;
 
 pub fn compare(seed: u64, report: &mut Report) {
     let mut random = Rng::new(seed);
@@ -17,20 +19,22 @@ pub fn compare(seed: u64, report: &mut Report) {
     let mut read = Answers::new("texts read back");
     let mut damaged = Answers::new("damaged texts read");
     for _ in 0..TREES {
-        let tree = grown(&mut random);
-        written.count(same_text(seed, &LentTree::of(&tree), &mut random));
         same_text(seed, &noise(&mut random), &mut random);
-        let mut buffer = [0; 80];
-        let Ok(length) = text::write(&tree, &mut buffer) else {
+        let tree = LentTree::of(&grown(&mut random));
+        let (told, text) = same_text(seed, &tree, &mut random);
+        written.count(told);
+        if told != 0 {
             continue;
-        };
-        read.count(same_reading(seed, tree.n, &buffer[..length], &mut random));
+        }
+        read.count(read_back(seed, &tree, &text, &mut random));
         for _ in 0..5 {
-            let (n, text) = damage(tree.n, &buffer[..length], &mut random);
-            damaged.count(same_reading(seed, n, &text, &mut random));
+            let (n, text) = damage(tree.n, &text, &mut random);
+            damaged.count(same_reading(seed, n, &text, &mut random).0);
         }
     }
     written.report_all(&[0, 3, 12], report);
+    let (name, count) = ("texts written and read back", read.total());
+    report.at_least(name, count, LEAST_WRITTEN);
     read.report_all(&[0], report);
     damaged.report_all(&[0, 1, 6, 10], report);
 }
@@ -63,8 +67,9 @@ fn noise(random: &mut Rng) -> LentTree {
     tree
 }
 
-/// The second implementation's answer; a byte that is no truth is an unsound state.
-pub fn same_text(seed: u64, tree: &LentTree, random: &mut Rng) -> u8 {
+/// The second implementation's answer, and the text that the proved function wrote, if it did; a
+/// byte that is no truth is an unsound state.
+pub fn same_text(seed: u64, tree: &LentTree, random: &mut Rng) -> (u8, Vec<u8>) {
     let room = random.pick(&[0, 3, 10, 40, 69, 80]);
     let mut ours: Vec<u8> = (0..room).map(|_| random.below(256) as u8).collect();
     let noise = random.word() as usize;
@@ -85,10 +90,26 @@ pub fn same_text(seed: u64, tree: &LentTree, random: &mut Rng) -> u8 {
             &format!("writing told {told} and {length}, expected {expected:?}, of {tree:?}"),
         );
     }
+    theirs.truncate(if told == 0 { length } else { 0 });
+    (told, theirs)
+}
+
+/// What was written of the tree gives its engagers and its root.
+fn read_back(seed: u64, tree: &LentTree, text: &[u8], random: &mut Rng) -> u8 {
+    let (told, engager, root) = same_reading(seed, tree.n, text, random);
+    if (engager, root) != (tree.engager, tree.root) {
+        fail(seed, &format!("the text read back is not of {tree:?}"));
+    }
     told
 }
 
-fn same_reading(seed: u64, n: usize, text: &[u8], random: &mut Rng) -> u8 {
+/// The second implementation's answer; engagers and root as they are after it.
+fn same_reading(
+    seed: u64,
+    n: usize,
+    text: &[u8],
+    random: &mut Rng,
+) -> (u8, [u8; MAX_NODES], usize) {
     let noise: ([u8; MAX_NODES], usize) = (bytes(random), random.word() as usize);
     let (mut engager, mut root) = noise;
     let mut lent = text.to_vec();
@@ -109,7 +130,7 @@ fn same_reading(seed: u64, n: usize, text: &[u8], random: &mut Rng) -> u8 {
             ),
         );
     }
-    told
+    (told, engager, root)
 }
 
 /// The text with a byte or two changed, dropped, doubled or added, or another number of nodes.
