@@ -204,9 +204,10 @@ static inline int muzserlik_ring_is_sound(const struct muzserlik_ring *ring)
 }
 
 /*
- * Moves the token by probes and passes. Before each move, in this order: the announce test holds (100: announce), no move is allowed (101: the node
- * that has the token is active; go on once it is passive), `limit` moves are made (102: call again); `moves` is then how many it made. 3, 4 or 11: refused, ring and `moves` as they were. It never announces: that is a step. A ring with every node passive and no message
- * in transit needs at most 3n - 2 moves.
+ * Moves the token by probes and passes. Tested before each move, in this order: the announce test holds (100: announce); no move is allowed
+ * (101: the node that has the token is active; go on once it is passive); `limit` moves are made (102: call again). `moves` is then how many it
+ * made. 3, 4 or 11: refused, ring and `moves` as they were. It never announces: that is a step. A ring with every node passive and no message in
+ * transit needs at most 3n - 2 moves.
  */
 static inline int muzserlik_ring_drive(struct muzserlik_ring *ring, size_t limit, uint32_t *moves)
 {
