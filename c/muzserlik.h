@@ -17,10 +17,13 @@
  *     at the same time in different threads, calls on the same struct may not.
  *
  * The caller sees to it that
+ *   - the steps tell what the nodes do: SEND before a message leaves, and none leaves whose SEND is refused; TAKE as it is received; IDLE as a node
+ *     becomes passive. An announcement is proved right of the accepted steps, not of nodes that do something else;
  *   - a pointer points to as much memory as its type or the length beside it says, aligned as its type asks (a struct that is declared as one
  *     is), and is not null; with a length of 0 the inline functions take any pointer, also a null one;
  *   - what is written to overlaps nothing else of the same call: `moves`, or `buffer` and `length`, lie outside the struct and apart from each
- *     other; `engager` and `root` apart from each other and from the text. The fields of a struct do not overlap;
+ *     other; `flags` lie outside the struct that is started; `engager` and `root` lie apart from each other and from the text. The fields of a
+ *     struct do not overlap;
  *   - nobody else writes to what is lent before the call returns.
  * Where this is not so no call can tell, and nothing is promised.
  *
@@ -101,7 +104,7 @@ enum muzserlik_answer {
  *   PASS i     i is above 0, has the token and is passive: the token goes to i - 1, its sum gains the counter of i, it becomes black if i is, and
  *              i becomes white
  *   ANNOUNCE   the announce test: node 0 has the token, both are white, q plus the counter of node 0 is 0, node 0 is passive and no message is on its
- *              way to it. Then every node is passive and no message is in transit (proved); the run is closed
+ *              way to it. Then, by the accepted steps, every node is passive and no message is in transit (proved); the run is closed
  *
  *   a tree
  *   SEND i j   i is active: one more message is on its way from i to j, and one more of i is not acknowledged
@@ -111,8 +114,8 @@ enum muzserlik_answer {
  *   ACK i      an acknowledgement is on its way to i: i receives it, and one less of i is not acknowledged
  *   LEAVE i    i is not the root, is engaged and passive, and all that it sent is acknowledged: an acknowledgement sets out to its engager, and i is
  *              no longer engaged
- *   ANNOUNCE   the root is passive, and all that it sent is acknowledged. Then every node is passive and no message is in transit (proved); the run is
- *              closed
+ *   ANNOUNCE   the root is passive, and all that it sent is acknowledged. Then, by the accepted steps, every node is passive and no message is in
+ *              transit (proved); the run is closed
  */
 enum muzserlik_kind {
     MUZSERLIK_SEND = 1,

@@ -80,6 +80,7 @@ calls-answer =
       write = λ t {buf} w. (
         (rw (fields-hold .tree t .0, fields-hold .tree t .1) at (w .told)) ∙ sym (number-told (writeVerdict t buf) _),
         rw (fields-hold .tree t .0, fields-hold .tree t .1) at (w .bytes),
+        rw (fields-hold .tree t .0, fields-hold .tree t .1) at (w .long),
       );
       read = λ r. (r .told, r .engagers, r .outermost);
     }

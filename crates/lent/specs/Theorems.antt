@@ -1,6 +1,7 @@
 -- What the contracts of the exported functions add up to, of every number that they can answer.
 use Prim.Native.Nat.{_<_, _≤_, ℕ}
 use lib.ListN.{getD}
+use lib.ListN as ListN
 use mathlib.Core.Bool.{true}
 use mathlib.Core.List.{List}
 use mathlib.Core.Path.{_≡_}
@@ -8,7 +9,7 @@ use Rattle.flag_bytes.specs.Flags.{byteOf}
 use Rattle.refusal.specs.Table.{codeOf, settle}
 use Rattle.ring_rules.specs.Driver.{driveOf, reasonNumber, reasonVerdict}
 use Rattle.tree_text.specs.Read.{readOf}
-use Rattle.tree_text.specs.Write.{bufferOf, writtenNumber, writtenOf}
+use Rattle.tree_text.specs.Write.{bufferOf, stateText, writeVerdict, writtenNumber, writtenOf}
 use Rattle.lent.specs.Ring.{DrivenTo, Lent, StartedTo, SteppedTo, truthsTest, lentOf, soundNumber, stateOf}
 use Rattle.lent.specs.Tree.{LentTree, ReadAs, TreeStartedTo, TreeSteppedTo, WrittenAs, lentTreeOf, treeTruthsTest, treeOf, treeSoundNumber}
 use Rattle.ring_rules.specs.Answers as ringAnswers
@@ -20,8 +21,8 @@ use Rattle.tree_rules.specs.Soundness as treeSound
 use Rattle.tree_rules.specs.Start as treeStart
 use Rattle.tree_rules.specs.State as tree
 
--- "A refusal gives its number and the state handed in; no byte of a lent buffer differs": each number but 0, of the driver each below 100,
--- is a refusal's, and then every lent field is as it was
+-- "A refusal gives its number and the state handed in; no byte of a lent buffer differs": where the number is not 0, of the driver below 100,
+-- every lent field is as it was
 pub record RefusalsKeep : Type 0 where
   pub start :
       {nodes number : ℕ} {flags : List ℕ} {before after : Lent} → StartedTo nodes flags number before after → (number ≡ 0 → ⊥)
@@ -106,6 +107,7 @@ pub record CallsAnswer : Type 0 where
   pub write :
       (t : tree.State) {buf buf′ : List ℕ} {number length length′ : ℕ} → WrittenAs (lentTreeOf t) buf number length length′ buf′
       → (number ≡ writtenNumber (writtenOf t buf)) × (buf′ ≡ bufferOf t buf)
+      × (length′ ≡ settle (writeVerdict t buf) (ListN.length (stateText t)) length)
   pub read :
       {n number root root′ : ℕ} {s engager engager′ : List ℕ} → ReadAs n s number engager root engager′ root′
       → (number ≡ codeOf (readOf n s .verdict)) × (engager′ ≡ settle (readOf n s .verdict) (readOf n s .engager) engager)

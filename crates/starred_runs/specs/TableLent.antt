@@ -1,5 +1,5 @@
--- What other languages are told of rings, lent field by field in the order of the functions' arguments, no two fields alike, so that no field
--- stands in another's place. "A refusal gives its number and the state handed in; no byte of a lent buffer differs."
+-- What other languages are told of rings, lent field by field. In `handed` no two fields are alike, so that none stands in another's place.
+-- "A refusal gives its number and the state handed in; no byte of a lent buffer differs."
 use Prim.Native.Nat.{ℕ}
 use lib.IntN.{ℤ}
 use lib.ListN.{replicate, set}
