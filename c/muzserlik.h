@@ -11,8 +11,8 @@
  *     call are made in the order of their numbers; in reading, the first fault from the left decides. The driver answers with 100, 101 or 102,
  *     or with a refusal. Soundness is answered with 1 or 0;
  *   - that is refused leaves every byte that it was lent as it was;
- *   - judges whatever a struct holds: one that is not sound is refused with 3. One that was filled or changed by hand may happen to be sound, and is
- *     then taken as it is: let only these calls change a struct;
+ *   - judges whatever a struct holds: one that is not sound is refused with 3 (README, "Sound states", says which are). One that was filled or changed by
+ *     hand may happen to be sound, and is then taken as it is: let only these calls change a struct;
  *   - keeps nothing: what it is lent, it is lent until it returns. There is no state but the structs, so calls on different structs may run
  *     at the same time in different threads, calls on the same struct may not.
  *
@@ -27,10 +27,11 @@
  *   - nobody else writes to what is lent before the call returns.
  * Where this is not so no call can tell, and nothing is promised.
  *
- * Nodes, kinds, counts and limits are size_t, so that none is cut down on its way in: a kind of 257 is an unknown kind, and -1 is no node. A struct
- * may be copied by assignment. It has padding: memcmp does not compare two rings or two trees.
+ * Nodes, kinds, counts and limits that are handed in are size_t, so that none is cut down on its way: a kind of 257 is an unknown kind, and -1 is no
+ * node. A struct may be copied by assignment. It has padding: memcmp does not compare two rings or two trees.
  *
- * The archive needs memcpy and memset, and nothing else; it has no data of its own that is written to.
+ * The archive needs memcpy and memset, and nothing else; it has no data of its own that is written to, and takes no memory but the stack, less than
+ * 32 KiB (measured). A step first walks the whole struct to see that it is sound. Header and archive are of one checkout: neither has a version.
  */
 #ifndef MUZSERLIK_H
 #define MUZSERLIK_H
@@ -85,7 +86,7 @@ enum muzserlik_answer {
     MUZSERLIK_REFUSED_MOVE_LIMIT = 11,
     /* writing: the buffer is shorter than the text */
     MUZSERLIK_REFUSED_SHORT_BUFFER = 12,
-    /* the driver stopped: the announce test holds; no token move is allowed; it made as many moves as it was allowed. Never 0 */
+    /* the driver, which never answers 0, stopped: the announce test holds; no token move is allowed; it made as many moves as it was allowed */
     MUZSERLIK_CONCLUSIVE = 100,
     MUZSERLIK_WAITING = 101,
     MUZSERLIK_SPENT = 102
@@ -209,8 +210,8 @@ static inline int muzserlik_ring_is_sound(const struct muzserlik_ring *ring)
 /*
  * Moves the token by probes and passes. Tested before each move, in this order: the announce test holds (100: announce); no move is allowed
  * (101: the node that has the token is active; go on once it is passive); `limit` moves are made (102: call again). `moves` is then how many it
- * made. 3, 4 or 11: refused, ring and `moves` as they were. It never announces: that is a step. A ring with every node passive and no message in
- * transit needs at most 3n - 2 moves.
+ * made. A limit of 0 only asks. 3, 4 or 11: refused, ring and `moves` as they were. It never announces: that is a step. A ring with every node passive
+ * and no message in transit needs at most 3n - 2 moves.
  */
 static inline int muzserlik_ring_drive(struct muzserlik_ring *ring, size_t limit, uint32_t *moves)
 {
@@ -243,7 +244,7 @@ static inline int muzserlik_tree_is_sound(const struct muzserlik_tree *tree)
 
 /*
  * The text of the engagement tree, as (0 (1) (2 (3))), into the `room` bytes at `buffer`, with no zero byte after it; `length` is then how
- * long it is, and bytes past it keep their values. 0; 3 or 12 with buffer and `length` as they were.
+ * long it is, and bytes past it keep their values. A closed tree can be written too. 0; 3 or 12 with buffer and `length` as they were.
  */
 static inline int muzserlik_tree_write(const struct muzserlik_tree *tree, uint8_t *buffer, size_t room, size_t *length)
 {
@@ -253,10 +254,11 @@ static inline int muzserlik_tree_write(const struct muzserlik_tree *tree, uint8_
 }
 
 /*
- * Reads the text of a tree of n nodes, `length` bytes and no more: the engagers, 16 where a node is not engaged, and the root.
- * 0; 1, 6 or 10 with `engager` and `root` as they were. 1 comes first; then the first fault from the left decides: where a number belongs, one of n or
- * more, of whatever length, is 6; anything else, such as a leading zero, a node twice, children that do not ascend, other spacing, bytes after the
- * last bracket, is 10. A text says nothing of messages: it does not make a tree to go on with.
+ * Reads the text of a tree of n nodes, `length` bytes and no more, as (const uint8_t *)"(0 (1))" with 7: all 16 engagers, the root's being itself, 16
+ * where a node is not engaged and from n on; and the root. 0; 1, 6 or 10 with `engager` and `root` as they were. 1 comes first; then the first fault
+ * from the left decides: where a number belongs, one of n or more without a leading zero, of whatever length and whatever follows it, is 6; anything
+ * else, such as a leading zero, a node twice, children that do not ascend, other spacing, bytes after the last bracket, is 10. A text says nothing of
+ * messages: it does not make a tree to go on with.
  */
 static inline int muzserlik_tree_read(size_t n, const uint8_t *text, size_t length, uint8_t engager[MUZSERLIK_TREE_NODES], size_t *root)
 {
