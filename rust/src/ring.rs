@@ -8,6 +8,8 @@ pub const MAX_NODES: usize = 96;
 pub const COLOR_BYTES: usize = MAX_NODES / 8;
 /// The largest move limit of the driver: refusal 11.
 pub const MOVE_LIMIT: usize = 1_000;
+/// What a node's counter adds to q, at most.
+const COUNTER_LIMIT: u64 = 1_000_000;
 
 /// The token: the node that holds it, the sum it carries and its color.
 #[derive(Clone, Copy, Debug, PartialEq, Eq)]
@@ -143,7 +145,7 @@ impl Ring {
     /// q lies within (N - 1 - pos) * 1,000,000 either side of 0.
     fn q_is_in_range(&self) -> bool {
         let passed = (self.n - 1 - self.token.pos) as u64;
-        self.token.q.unsigned_abs() <= passed * u64::from(SEND_LIMIT)
+        self.token.q.unsigned_abs() <= passed * COUNTER_LIMIT
     }
 
     /// One of Safra's four holds.

@@ -36,7 +36,7 @@ module _ (r : ringState.State) (m : ℕ) where
 
   ended : Ended (driveOf r m) m → DriveLeft
   ended (concluded p _ _) = rw p
-  ended (waits p _ _ _) = rw p
+  ended (waits p _ _ _ _) = rw p
   ended (spends p _ _ _ _) = rw p
 
   open-drive : NoneHolds (driveTable r m) → DriveLeft

@@ -5,17 +5,19 @@ use libc::STDOUT_FILENO;
 use refusal::COLOR_BYTES;
 use refusal::Count;
 use refusal::RING_NODES;
+use refusal::SEND_LIMIT;
 use ring::Ring;
 use ring::Stepped;
+use ring_rules::MOVE_LIMIT;
 
 // Two nodes: node 0 is active and sent 999,999 messages, all of them in transit to node 1; the token is black.
 fn busy() -> Ring {
     let mut active = [false; RING_NODES];
     active[0] = true;
     let mut sent = [0u32; RING_NODES];
-    sent[0] = 999999;
+    sent[0] = SEND_LIMIT - 1;
     let mut pending = [0u32; RING_NODES];
-    pending[1] = 999999;
+    pending[1] = SEND_LIMIT - 1;
     Ring {
         n: 2,
         active,
@@ -65,7 +67,7 @@ fn main() {
     counted(last.black_nodes());
     counted(spoiled(last).in_transit());
     counted(spoiled(last).black_nodes());
-    let driven = last.drive(1001);
+    let driven = last.drive(MOVE_LIMIT + 1);
     let reason = driven.reason;
     line(ring_rules::reason_number(reason) as u64);
 }

@@ -3,6 +3,7 @@
 // transit before and after one is acknowledged, each with the number of its answer before it, 3 of an unsound tree.
 use libc::STDOUT_FILENO;
 use refusal::Count;
+use refusal::SEND_LIMIT;
 use refusal::TREE_NODES;
 use refusal::TREE_PAIRS;
 use tree::Stepped;
@@ -16,9 +17,9 @@ fn busy() -> Tree {
     let mut engager = [NO_ENGAGER; TREE_NODES];
     engager[0] = 0;
     let mut unacked = [0u32; TREE_NODES];
-    unacked[0] = 999999;
+    unacked[0] = SEND_LIMIT - 1;
     let mut transit = [0u32; TREE_PAIRS];
-    transit[1] = 999999;
+    transit[1] = SEND_LIMIT - 1;
     Tree {
         n: 2,
         root: 0,
@@ -27,7 +28,7 @@ fn busy() -> Tree {
         unacked,
         transit,
         acks: [0; TREE_NODES],
-        sends: 999999,
+        sends: SEND_LIMIT - 1,
         closed: false,
     }
 }
