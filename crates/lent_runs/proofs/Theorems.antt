@@ -1,0 +1,161 @@
+-- Demand 3 of calls. Assumes nothing.
+use Prim.Native.Nat.{_*_, _-_, _≤_, ℕ}
+use mathlib.Core.Bool.{Bool, _&&_, _||_, cond, false, true}
+use mathlib.Core.List.{List}
+use mathlib.Core.Logic.{_↔_}
+use mathlib.Core.Path.{_∙_, _≡_, ap, refl, subst, sym}
+use native.Mathlib.Omega.{arith}
+use Rattle.flag_bytes.specs.Flags.{byteOf, flagOf}
+use Rattle.laws.proofs.Tests.{both}
+use Rattle.lent.proofs.Calls.{calls-answer}
+use Rattle.lent.proofs.Sound.{fields-hold}
+use Rattle.lent.specs.Ring.{Lent, StartedTo, lentOf, soundNumber, stateOf, truthsTest}
+use Rattle.lent.specs.Tree.{LentTree, TreeStartedTo, lentTreeOf, treeOf, treeSoundNumber, treeStepNumber, treeTruthsTest}
+use Rattle.refusal.proofs.Table.{code-accepted}
+use Rattle.refusal.specs.Table.{codeOf}
+use Rattle.refusal.specs.declared.Verdict.{Verdict}
+use Rattle.refusal.specs.declared.Verdict.the-variants.{Accepted}
+use Rattle.runs.proofs.Runs.{run-of}
+use Rattle.runs.specs.Runs.{Request, acceptedOf, runOf}
+use Rattle.ring_rules.proofs.Answers as ringAnswered
+use Rattle.ring_rules.proofs.Driver as ringDriver
+use Rattle.ring_rules.proofs.Theorems as ringRules
+use Rattle.ring_rules.specs.Answers as ringAnswers
+use Rattle.ring_rules.specs.Driver as ringDrive
+use Rattle.ring_rules.specs.Soundness as ringSound
+use Rattle.ring_rules.specs.Start as ringStart
+use Rattle.ring_rules.specs.State as ringState
+use Rattle.ring_runs.proofs.Trace as ringTrace
+use Rattle.ring_runs.proofs.WholeRun as ringRun
+use Rattle.ring_runs.specs.Counts as ringCounts
+use Rattle.tree_rules.proofs.Answers as treeAnswered
+use Rattle.tree_rules.proofs.Theorems as treeRules
+use Rattle.tree_rules.specs.Answers as treeAnswers
+use Rattle.tree_rules.specs.Soundness as treeSound
+use Rattle.tree_rules.specs.Start as treeStart
+use Rattle.tree_rules.specs.State as treeState
+use Rattle.tree_runs.proofs.Traced as treeTrace
+use Rattle.tree_runs.proofs.WholeRun as treeRun
+use Rattle.tree_runs.specs.Counts as treeCounts
+use Rattle.lent_runs.proofs.Ring as rings
+use Rattle.lent_runs.proofs.Tree as trees
+use Rattle.lent_runs.specs.Ring.{RingCall, drive, fieldsAfter, numberTold, requestsIn, requestsOf, step}
+use Rattle.lent_runs.specs.Theorems.{RingCalls, TreeCalls, WholeCalls}
+use Rattle.lent_runs.specs.Tree.{treeFieldsAfter}
+
+-- a number that is a verdict's code is 0 exactly if the verdict is accepted
+zero-accepted : (k : ℕ) (v : Verdict) → k ≡ codeOf v → (k ≡ 0) ↔ (v ≡ Accepted)
+zero-accepted k v e = (λ z. code-accepted v (sym e ∙ z), λ a. e ∙ ap codeOf a)
+
+-- ---- the ring
+
+module _ (r : ringState.State) (o : ringSound.Open r) (cs : List RingCall) where
+  abbrev xs : List Request
+  xs = requestsIn (lentOf r) cs
+
+  abbrev here : ringState.State
+  here = runOf ringCounts.ring r xs
+
+  sound-here : ringSound.Sound here
+  sound-here = ringRun.sound-here r o xs
+
+  fields : fieldsAfter (lentOf r) cs ≡ lentOf here
+  fields = rings.calls-run r (o .sound) cs
+
+  told : (x : Request) → numberTold (fieldsAfter (lentOf r) cs) (step x) ≡ codeOf (ringCounts.ring .verdict here x)
+  told x = ap (λ (l : Lent). numberTold l (step x)) fields ∙ rings.step-told here x
+
+  closed-here : ringCounts.Announced r xs → here .closed ≡ true
+  closed-here a = ringRun.closed-here r o xs ∙ a
+
+  concludes :
+      ringCounts.QuietBy r xs → ringCounts.Unannounced r xs → (m : ℕ) → 3 * r .n - 2 ≤ m → m ≤ ringDrive.moveLimit
+      → numberTold (fieldsAfter (lentOf r) cs) (drive m) ≡ 100
+  concludes q e m lo hi =
+      let o-here : ringSound.Open here = record { sound = sound-here; running = ringRun.closed-here r o xs ∙ e } in
+      ap (λ (l : Lent). numberTold l (drive m)) fields
+      ∙ rings.drive-told here m
+      ∙ ringRules.driver-counts .quiet here m o-here hi (ringRun.by-quiet r o xs q)
+      (omega (arith, lo, ringTrace.run-n (run-of ringCounts.ring r xs))) .1
+
+  last-told : here .closed ≡ true → (c : RingCall) → numberTold (lentOf here) c ≡ 4
+  last-told e (step x) =
+      rings.step-told here x
+      ∙ ap (λ (a : ringAnswers.Answer). codeOf (a .verdict))
+      (sym (ringRun.whole-runs .answers here x) ∙ sym (ringAnswered.closed-answer here (ringCounts.kind x) (x .i) (x .j) sound-here e))
+  last-told e (drive m) =
+      rings.drive-told here m ∙ ap (λ (d : ringDrive.Driven). ringDrive.reasonNumber (d .reason)) (ringDriver.drive-closed here m sound-here e)
+
+  ring-calls : RingCalls r cs xs
+  ring-calls =
+      record {
+        fields = fields;
+        told = λ x. zero-accepted _ _ (told x);
+        moves = λ m.
+            subst
+            (λ (l : Lent). ringCounts.AllMoves (requestsOf l (drive m)) × (acceptedOf ringCounts.ring here (requestsOf l (drive m)) ≡ requestsOf l (drive m)))
+            (sym fields) (rings.drive-moves here m sound-here);
+        point = ringRun.whole-runs .point r o xs;
+        quiet = λ x k z. ringRun.whole-runs .point r o xs .quiet x k (zero-accepted _ _ (told x) .0 z);
+        last = λ a c. ap (λ (l : Lent). numberTold l c) fields ∙ last-told (closed-here a) c;
+        concludes = concludes;
+      }
+
+-- ---- the tree
+
+module _ (t : treeState.State) (o : treeSound.Open t) (xs : List Request) where
+  abbrev tree-here : treeState.State
+  tree-here = runOf treeCounts.tree t xs
+
+  tree-fields : treeFieldsAfter (lentTreeOf t) xs ≡ lentTreeOf tree-here
+  tree-fields = trees.steps-run t xs
+
+  tree-told :
+      (x : Request) → treeStepNumber (treeFieldsAfter (lentTreeOf t) xs) (x .kind) (x .i) (x .j) ≡ codeOf (treeCounts.tree .verdict tree-here x)
+  tree-told x = ap (λ (l : LentTree). treeStepNumber l (x .kind) (x .i) (x .j)) tree-fields ∙ trees.step-told tree-here x
+
+  tree-closed : treeCounts.Announced t xs → tree-here .closed ≡ true
+  tree-closed a = treeTrace.traced t (o .sound) xs .closing ∙ (λ i. o .running i || a i)
+
+  tree-sound : treeSound.Sound tree-here
+  tree-sound = treeTrace.traced t (o .sound) xs .sound
+
+  tree-calls : TreeCalls t xs
+  tree-calls =
+      record {
+        fields = tree-fields;
+        told = λ x. zero-accepted _ _ (tree-told x);
+        point = treeRun.whole-runs .point t o xs;
+        quiet = λ x k z. treeRun.whole-runs .point t o xs .quiet x k (zero-accepted _ _ (tree-told x) .0 z);
+        last = λ a x.
+            tree-told x
+            ∙ ap (λ (a : treeAnswers.Answer). codeOf (a .verdict))
+            (sym (treeRun.whole-runs .answers tree-here x)
+            ∙ sym (treeAnswered.closed-answer tree-here (treeCounts.kind x) (x .i) (x .j) tree-sound (tree-closed a)));
+      }
+
+-- ---- where lists of calls begin
+
+one-true : (b : Bool) → byteOf b ≡ 1 → b ≡ true
+one-true true e = refl
+one-true false e = absurd (omega arith)
+
+pub whole-calls : WholeCalls
+unfolding ringStart.startOf treeStart.startOf
+whole-calls =
+    record {
+      ring = ring-calls;
+      tree = tree-calls;
+      ring-started = λ {nodes} {flags} s.
+          let v = code-accepted (ringStart.startOf nodes flags .verdict) (sym (s .told)) in
+          (calls-answer .start s .1 ∙ rw v, ringRules.sound-kept .start nodes flags v);
+      ring-handed = λ l k c.
+          let p = both (truthsTest l) _ (one-true _ k) in
+          (sym (fields-hold .ring-back l (p .0)), record { sound = ringRules.sound-tested .holds (stateOf l) (p .1); running = ap flagOf c });
+      tree-started = λ {nodes} {at} s.
+          let v = code-accepted (treeStart.startOf nodes at .verdict) (sym (s .told)) in
+          (calls-answer .tree-start s .1 ∙ rw v, treeRules.sound-kept .start nodes at v);
+      tree-handed = λ l k c.
+          let p = both (treeTruthsTest l) _ (one-true _ k) in
+          (sym (fields-hold .tree-back l (p .0)), record { sound = treeRules.sound-tested .holds (treeOf l) (p .1); running = ap flagOf c });
+    }

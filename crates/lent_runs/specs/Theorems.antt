@@ -1,0 +1,71 @@
+-- Demand 3 of calls: lists of them on one ring or tree that is lent, refused ones included, are runs.
+use Prim.Native.Nat.{_*_, _-_, _≤_, ℕ}
+use mathlib.Core.List.{List}
+use mathlib.Core.Logic.{_↔_}
+use mathlib.Core.Path.{_≡_}
+use Rattle.lent.specs.Ring.{Lent, StartedTo, lentOf, soundNumber, stateOf}
+use Rattle.lent.specs.Tree.{LentTree, TreeStartedTo, lentTreeOf, treeOf, treeSoundNumber, treeStepNumber}
+use Rattle.runs.specs.Runs.{Accepts, Request, acceptedOf, runOf}
+use Rattle.ring_rules.specs.Driver as ringDrive
+use Rattle.ring_rules.specs.Rules as ringRules
+use Rattle.ring_rules.specs.Soundness as ringSound
+use Rattle.ring_rules.specs.Start as ringStart
+use Rattle.ring_rules.specs.State as ringState
+use Rattle.ring_runs.specs.Counts as ringCounts
+use Rattle.ring_runs.specs.WholeRun as ringRun
+use Rattle.tree_rules.specs.Rules as treeRules
+use Rattle.tree_rules.specs.Soundness as treeSound
+use Rattle.tree_rules.specs.Start as treeStart
+use Rattle.tree_rules.specs.State as treeState
+use Rattle.tree_runs.specs.Counts as treeCounts
+use Rattle.tree_runs.specs.WholeRun as treeRun
+use Rattle.lent_runs.specs.Ring.{RingCall, drive, fieldsAfter, numberTold, requestsIn, requestsOf, step}
+use Rattle.lent_runs.specs.Tree.{treeFieldsAfter}
+
+-- After the calls cs on the fields of the ring r, which come to the requests xs.
+pub record RingCalls (r : ringState.State) (cs : List RingCall) (xs : List Request) : Type 0 where
+  -- the fields are those of the state that the run of these requests comes to
+  pub fields : fieldsAfter (lentOf r) cs ≡ lentOf (runOf ringCounts.ring r xs)
+  -- a step is told 0 exactly if that run accepts it next
+  pub told : (x : Request) → (numberTold (fieldsAfter (lentOf r) cs) (step x) ≡ 0) ↔ Accepts ringCounts.ring (runOf ringCounts.ring r xs) x
+  -- what a drive makes next are token moves, each accepted
+  pub moves :
+      (m : ℕ) → ringCounts.AllMoves (requestsOf (fieldsAfter (lentOf r) cs) (drive m))
+      × (acceptedOf ringCounts.ring (runOf ringCounts.ring r xs) (requestsOf (fieldsAfter (lentOf r) cs) (drive m))
+      ≡ requestsOf (fieldsAfter (lentOf r) cs) (drive m))
+  -- demand 3 of that run; an announcement is told 0 only if it is quiet; after it every call tells 4
+  pub point : ringRun.Point r xs
+  pub quiet :
+      (x : Request) → ringCounts.kind x ≡ ringRules.Announce → numberTold (fieldsAfter (lentOf r) cs) (step x) ≡ 0 → ringCounts.QuietBy r xs
+  pub last : ringCounts.Announced r xs → (c : RingCall) → numberTold (fieldsAfter (lentOf r) cs) c ≡ 4
+  -- once quiet, and until the announcement, a drive with a limit of 3n - 2 to 1,000 tells 100: the announce test holds
+  pub concludes :
+      ringCounts.QuietBy r xs → ringCounts.Unannounced r xs → (m : ℕ) → 3 * r .n - 2 ≤ m → m ≤ ringDrive.moveLimit
+      → numberTold (fieldsAfter (lentOf r) cs) (drive m) ≡ 100
+
+-- After the steps xs on the fields of the tree t.
+pub record TreeCalls (t : treeState.State) (xs : List Request) : Type 0 where
+  pub fields : treeFieldsAfter (lentTreeOf t) xs ≡ lentTreeOf (runOf treeCounts.tree t xs)
+  pub told :
+      (x : Request) → (treeStepNumber (treeFieldsAfter (lentTreeOf t) xs) (x .kind) (x .i) (x .j) ≡ 0)
+      ↔ Accepts treeCounts.tree (runOf treeCounts.tree t xs) x
+  pub point : treeRun.Point t xs
+  pub quiet :
+      (x : Request) → treeCounts.kind x ≡ treeRules.Announce
+      → treeStepNumber (treeFieldsAfter (lentTreeOf t) xs) (x .kind) (x .i) (x .j) ≡ 0 → treeCounts.QuietBy t xs
+  pub last :
+      treeCounts.Announced t xs → (x : Request) → treeStepNumber (treeFieldsAfter (lentTreeOf t) xs) (x .kind) (x .i) (x .j) ≡ 4
+
+-- for every list of calls on the fields of every sound state that is not yet announced
+pub record WholeCalls : Type 0 where
+  pub ring : (r : ringState.State) → ringSound.Open r → (cs : List RingCall) → RingCalls r cs (requestsIn (lentOf r) cs)
+  pub tree : (t : treeState.State) → treeSound.Open t → (xs : List Request) → TreeCalls t xs
+  -- such fields are those that an accepted start leaves, and all that are told as sound and are not closed
+  pub ring-started :
+      {nodes : ℕ} {flags : List ℕ} {before after : Lent} → StartedTo nodes flags 0 before after
+      → (after ≡ lentOf (ringStart.startOf nodes flags .state)) × ringSound.Open (ringStart.startOf nodes flags .state)
+  pub ring-handed : (l : Lent) → soundNumber l ≡ 1 → l .closed ≡ 0 → (l ≡ lentOf (stateOf l)) × ringSound.Open (stateOf l)
+  pub tree-started :
+      {nodes at : ℕ} {before after : LentTree} → TreeStartedTo nodes at 0 before after
+      → (after ≡ lentTreeOf (treeStart.startOf nodes at .state)) × treeSound.Open (treeStart.startOf nodes at .state)
+  pub tree-handed : (l : LentTree) → treeSoundNumber l ≡ 1 → l .closed ≡ 0 → (l ≡ lentTreeOf (treeOf l)) × treeSound.Open (treeOf l)
