@@ -4,6 +4,7 @@
 //! independent check of the proved implementation.
 #![forbid(unsafe_code)]
 
+pub mod bounds;
 mod decimal;
 pub mod generate;
 pub mod log;

@@ -3,7 +3,8 @@
 //!
 //! Log k has the seed SEED + k and a share of the lines that are left, so a failing log
 //! comes again as `compare PROGRAM 1 SHARE ITS-SEED`. Two more logs, a ring's and a tree's
-//! that are longer than the greatest number of lines, follow at the end.
+//! that are longer than the greatest number of lines, follow at the end, with figures of
+//! their own.
 //!
 //! Then it prints what was met, each figure with its bound, and fails if one is not within
 //! it. With a SEED no bound is asked: that is for finding a fault again.
@@ -45,16 +46,18 @@ fn parse(arguments: &[String]) -> Option<(&str, usize, usize, Option<u64>)> {
     Some((program, logs.parse().ok()?, lines.parse().ok()?, seed))
 }
 
+/// The logs by seed, of which every figure is asked, and those past the limit of lines.
 fn compare(program: &str, logs: usize, lines: usize, seed: u64) -> Result<Report, String> {
     let mut report = Report::default();
-    let mut tally = compare_seeds(program, logs, lines, seed)?;
-    tally.report_shares("same: logs by seed", &mut report);
+    let by_seed = compare_seeds(program, logs, lines, seed)?;
+    by_seed.report_shares("same: logs by seed", &mut report);
+    by_seed.report(&mut report);
+    let mut long = Tally::default();
     for input in past_line_limit() {
-        compare_one(program, seed, &input, &mut tally)
+        compare_one(program, seed, &input, &mut long)
             .map_err(|failure| format!("FAILED: a log past the limit of lines: {failure}"))?;
     }
-    tally.report_shares("same: all logs", &mut report);
-    tally.report(&mut report);
+    long.report_shares("same: logs past the limit of lines", &mut report);
     Ok(report)
 }
 

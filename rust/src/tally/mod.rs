@@ -1,0 +1,133 @@
+//! What was met in the logs that were compared: the answers by their numbers, and steps
+//! that one condition of a rule decides alone, by the second implementation's states.
+
+mod cases;
+mod starts;
+mod steps;
+
+use crate::bounds::logs::{ACCEPTED_PART, ANNOUNCED_IN_ALL, NO_FORM_PART, ON_ALL};
+use crate::log::{Log, Run};
+use crate::report::Report;
+use crate::request::Request;
+use cases::{Cases, RingCases, TreeCases};
+use starts::Starts;
+use steps::{Steps, Words};
+
+/// Numbers of answers: 0 is an accepted line, 1 to 12 are the refusals.
+const ANSWERS: usize = 13;
+const CLOSED: usize = 4;
+const NOT_A_FORM: usize = 10;
+
+const RING_WORDS: Words = ["send", "take", "idle", "probe", "pass"];
+const TREE_WORDS: Words = ["send", "take", "idle", "ack", "leave"];
+
+/// The lines of a log, each with its byte 10 if it has one.
+pub fn split(bytes: &[u8]) -> impl Iterator<Item = &[u8]> {
+    bytes.split_inclusive(|&byte| byte == b'\n')
+}
+
+/// The number of an answer: `(ok LINE)` is 0, `(no LINE NUMBER)` its last number.
+fn number_of(answer: &[u8]) -> usize {
+    if answer.starts_with(b"(ok ") {
+        return 0;
+    }
+    let last = answer.rsplit(|&byte| byte == b' ').next();
+    let digits = last.unwrap_or_default().iter();
+    digits
+        .filter(|byte| byte.is_ascii_digit())
+        .fold(0, |value, digit| 10 * value + usize::from(digit - b'0'))
+}
+
+/// What one detector met.
+#[derive(Default)]
+struct Detector<C> {
+    steps: Steps,
+    cases: C,
+}
+
+impl<C: Cases> Detector<C> {
+    /// Counts a line after the first: the state before it, its request if it is a form, and its answer.
+    fn count(&mut self, state: &C::State, request: Option<Request>, answer: usize) {
+        let kind = request.map_or(0, |request| request.kind);
+        self.steps.count(kind, answer);
+        if let Some(request) = request.filter(|_| answer != CLOSED) {
+            self.cases.count(state, request, answer == 0);
+        }
+    }
+
+    fn report(&self, name: &str, words: &Words, report: &mut Report) {
+        self.steps.report(name, words, &ON_ALL, report);
+        self.cases.report(name, &ON_ALL, report);
+    }
+}
+
+/// All that was met.
+#[derive(Default)]
+pub struct Tally {
+    logs: usize,
+    unread: usize,
+    starts: Starts,
+    ring: Detector<RingCases>,
+    tree: Detector<TreeCases>,
+}
+
+impl Tally {
+    /// Counts a log and its answers, which are those of the second implementation.
+    pub fn count(&mut self, input: &[u8], output: &[u8]) {
+        let mut log = Log::new();
+        let mut answers = split(output).map(number_of);
+        self.logs += 1;
+        if input.is_empty() {
+            self.starts.count(input, NOT_A_FORM);
+        }
+        for line in split(input) {
+            if log.is_over() {
+                self.unread += 1;
+                continue;
+            }
+            let answer = answers.next().expect("an answer to each line that is read");
+            self.count_line(log.run(), line, answer);
+            log.feed(line, &mut Vec::new());
+        }
+    }
+
+    fn count_line(&mut self, run: &Run, line: &[u8], answer: usize) {
+        let request = run.request(line).ok();
+        match run {
+            Run::Unstarted | Run::Refused => self.starts.count(line, answer),
+            Run::Ring(run) => self.ring.count(&run.ring, request, answer),
+            Run::Tree(tree) => self.tree.count(tree, request, answer),
+        }
+    }
+
+    /// A number of both detectors' steps.
+    fn both(&self, number: impl Fn(&Steps) -> usize) -> usize {
+        number(&self.ring.steps) + number(&self.tree.steps)
+    }
+
+    /// Logs and lines, and the shares of accepted lines and of lines that are no form.
+    pub fn report_shares(&self, logs: &str, report: &mut Report) {
+        let steps = self.both(Steps::answered);
+        report.told(logs, self.logs);
+        report.told(format!("{logs}: lines answered after the first"), steps);
+        report.at_least(
+            format!("{logs}: accepted steps"),
+            self.both(Steps::accepted),
+            steps.div_ceil(ACCEPTED_PART),
+        );
+        report.at_most(
+            format!("{logs}: lines that are no form"),
+            self.both(|steps| steps.refused(NOT_A_FORM)),
+            steps / NO_FORM_PART,
+        );
+        report.told(format!("{logs}: lines past what is read"), self.unread);
+    }
+
+    pub fn report(&self, report: &mut Report) {
+        self.starts.report(report);
+        let announced = self.both(Steps::announced);
+        report.at_least("logs announced", announced, ANNOUNCED_IN_ALL);
+        self.ring.report("ring", &RING_WORDS, report);
+        self.tree.report("tree", &TREE_WORDS, report);
+    }
+}
