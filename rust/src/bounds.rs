@@ -1,6 +1,28 @@
-//! What is asked of the comparisons, so that they cannot pass without having met it. docs/PROMISES.md tells it.
+//! What is asked of the comparisons, so that none passes without having met it. docs/PROMISES.md tells it.
 
-/// What one detector's steps have to meet, on all sizes or on some.
+use crate::{ring, tree};
+use std::ops::RangeInclusive;
+
+/// Sizes beyond those of most logs.
+pub const LARGE_RINGS: RangeInclusive<usize> = 9..=ring::MAX_NODES;
+pub const LARGE_TREES: RangeInclusive<usize> = 6..=tree::MAX_NODES;
+
+/// Steps of rings or trees of some sizes.
+pub struct Asked {
+    pub nodes: RangeInclusive<usize>,
+    pub accepted: usize,
+    pub refused: usize,
+}
+
+const fn asked(nodes: RangeInclusive<usize>, accepted: usize, refused: usize) -> Asked {
+    Asked {
+        nodes,
+        accepted,
+        refused,
+    }
+}
+
+/// What one detector's lines after the first have to meet, on all sizes or on the large ones.
 pub struct Met {
     /// Each kind of step but announce, accepted.
     pub kind: usize,
@@ -15,7 +37,7 @@ pub struct Met {
 
 /// Of the logs by seed.
 pub mod logs {
-    use super::Met;
+    use super::{asked, ring, tree, Asked, Met, LARGE_RINGS, LARGE_TREES};
 
     pub const ON_ALL: Met = Met {
         kind: 10_000,
@@ -25,6 +47,31 @@ pub mod logs {
         seldom: 100,
         often: 1_000,
     };
+    pub const ON_LARGE: Met = Met {
+        kind: 1_000,
+        announced: 90,
+        refusal: 600,
+        once: 15,
+        seldom: 30,
+        often: 500,
+    };
+    pub const ON_RINGS: [Asked; 4] = [
+        asked(1..=1, 50, 200),
+        asked(2..=8, 100_000, 20_000),
+        asked(LARGE_RINGS, 150_000, 20_000),
+        asked(ring::MAX_NODES..=ring::MAX_NODES, 60_000, 10_000),
+    ];
+    pub const ON_TREES: [Asked; 4] = [
+        asked(1..=1, 30, 200),
+        asked(2..=5, 50_000, 20_000),
+        asked(LARGE_TREES, 70_000, 20_000),
+        asked(tree::MAX_NODES..=tree::MAX_NODES, 25_000, 8_000),
+    ];
+    /// Different sizes.
+    pub const RING_SIZES: usize = 40;
+    pub const TREE_SIZES: usize = 12;
+    /// Passes of a white token by black nodes of each byte of colors.
+    pub const BLACKENED: usize = 25;
     pub const ANNOUNCED_IN_ALL: usize = 500;
     /// Each refusal of a first line, and each cause of refusal 10.
     pub const STARTS: usize = 50;

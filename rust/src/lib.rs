@@ -12,6 +12,7 @@ pub mod refusal;
 pub mod report;
 pub mod request;
 pub mod ring;
+pub mod sizes;
 pub mod tally;
 pub mod text;
 pub mod tree;

@@ -5,6 +5,7 @@
 mod faults;
 mod limits;
 mod model;
+mod relay;
 mod rng;
 mod starts;
 mod writer;
@@ -18,6 +19,7 @@ use crate::ring;
 use crate::tree;
 use faults::Fault;
 use limits::limit;
+use relay::Relay;
 use starts::{refused_start, CAUSES};
 use writer::{Mix, Writer};
 
@@ -97,10 +99,10 @@ fn started(rng: &mut Rng, turn: usize) -> Writer {
 }
 
 /// The seeds take turns: guided runs with each mix on a ring and on a tree, long lines,
-/// large runs, listed limits, late receipts, and first lines refused for each cause.
+/// large runs, listed limits, late receipts, relays, and first lines refused for each cause.
 const MIXED: usize = 2 * MIXES.len();
 const LATE: usize = 5;
-const TURNS: usize = MIXED + 6 + LATE + CAUSES;
+const TURNS: usize = MIXED + 7 + LATE + CAUSES;
 
 /// The log of a seed, of about `size` lines on the average.
 pub fn log(seed: u64, size: usize) -> Vec<u8> {
@@ -123,7 +125,11 @@ pub fn log(seed: u64, size: usize) -> Vec<u8> {
         half @ (4 | 5) => limit(&mut rng, 2 * round + half),
         6 => late_receipt(&mut rng, lines),
         7..=10 => late_receipt(&mut rng, 0),
-        cause => refused_start(&mut rng, cause - 6 - LATE, round),
+        11 => {
+            let writer = Relay::new(&mut rng).run(&mut rng, 4 * size);
+            writer.end(&mut rng, 0, NEAR_THE_END)
+        }
+        cause => refused_start(&mut rng, cause - 7 - LATE, round),
     }
 }
 

@@ -1,14 +1,26 @@
 //! Steps that one condition of a rule decides alone.
 
-use crate::bounds::Met;
+use super::steps::Words;
+use crate::bounds::{logs, Asked, Met, LARGE_RINGS, LARGE_TREES};
 use crate::report::Report;
 use crate::request::{Request, ANNOUNCE, LEAVE, PASS, PROBE, TAKE};
-use crate::ring::Ring;
+use crate::ring::{Ring, COLOR_BYTES};
 use crate::tree::Tree;
+use std::ops::RangeInclusive;
 
 /// One detector's rules, condition by condition.
 pub trait Cases: Default {
     type State;
+
+    const NAME: &'static str;
+    /// The words of its kinds but announce.
+    const WORDS: Words;
+    /// The large sizes, what is asked of ranges of sizes, and how many sizes are to be met.
+    const LARGE: RangeInclusive<usize>;
+    const ASKED: [Asked; 4];
+    const SIZES: usize;
+
+    fn n(state: &Self::State) -> usize;
 
     /// Counts a request to an open run.
     fn count(&mut self, state: &Self::State, request: Request, accepted: bool);
@@ -51,12 +63,39 @@ pub struct RingCases {
     probe: Decided<3>,
     not_quiet: Decided<1>,
     no_reason: Decided<1>,
-    blackened: Decided<1>,
+    /// Passes of a white token by black nodes of each byte of colors.
+    blackened: [usize; COLOR_BYTES],
     behind: Decided<1>,
+}
+
+impl RingCases {
+    fn report_blackened(&self, of: &str, least: &Met, report: &mut Report) {
+        let name = format!("{of}: pass by a black node of a white token");
+        let (sum, fewest) = (
+            self.blackened.iter().sum(),
+            self.blackened.into_iter().min(),
+        );
+        report.at_least(&name, sum, least.often);
+        report.at_least(
+            name + ", of the byte of colors with the fewest",
+            fewest.unwrap_or(0),
+            logs::BLACKENED,
+        );
+    }
 }
 
 impl Cases for RingCases {
     type State = Ring;
+
+    const NAME: &'static str = "ring";
+    const WORDS: Words = ["send", "take", "idle", "probe", "pass"];
+    const LARGE: RangeInclusive<usize> = LARGE_RINGS;
+    const ASKED: [Asked; 4] = logs::ON_RINGS;
+    const SIZES: usize = logs::RING_SIZES;
+
+    fn n(ring: &Ring) -> usize {
+        ring.n
+    }
 
     fn count(&mut self, ring: &Ring, request: Request, accepted: bool) {
         let (token, sum) = (ring.token, ring.token.q + ring.counter(0));
@@ -77,9 +116,9 @@ impl Cases for RingCases {
             }
             PROBE if accepted => self.probe.count([token.black, node_black, sum > 0]),
             PROBE => self.no_reason.count([home]),
-            PASS if accepted => self
-                .blackened
-                .count([!token.black && ring.is_black(request.i)]),
+            PASS if accepted && !token.black && ring.is_black(request.i) => {
+                self.blackened[request.i / 8] += 1;
+            }
             TAKE if accepted => self.behind.count([!home && request.i > token.pos]),
             _ => {}
         }
@@ -104,10 +143,9 @@ impl Cases for RingCases {
         self.not_quiet.report(of, names, least.often, report);
         let names = ["probe refused at node 0"];
         self.no_reason.report(of, names, least.seldom, report);
-        let names = ["pass by a black node of a white token"];
-        self.blackened.report(of, names, least.often, report);
         let names = ["take by a node that the token under way has passed"];
         self.behind.report(of, names, least.often, report);
+        self.report_blackened(of, least, report);
     }
 }
 
@@ -120,6 +158,16 @@ pub struct TreeCases {
 
 impl Cases for TreeCases {
     type State = Tree;
+
+    const NAME: &'static str = "tree";
+    const WORDS: Words = ["send", "take", "idle", "ack", "leave"];
+    const LARGE: RangeInclusive<usize> = LARGE_TREES;
+    const ASKED: [Asked; 4] = logs::ON_TREES;
+    const SIZES: usize = logs::TREE_SIZES;
+
+    fn n(tree: &Tree) -> usize {
+        tree.n
+    }
 
     fn count(&mut self, tree: &Tree, request: Request, accepted: bool) {
         let (root, i) = (tree.root, request.i);

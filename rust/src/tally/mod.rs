@@ -5,10 +5,12 @@ mod cases;
 mod starts;
 mod steps;
 
-use crate::bounds::logs::{ACCEPTED_PART, ANNOUNCED_IN_ALL, NO_FORM_PART, ON_ALL};
+use crate::bounds::logs::{ACCEPTED_PART, ANNOUNCED_IN_ALL, NO_FORM_PART, ON_ALL, ON_LARGE};
+use crate::bounds::Met;
 use crate::log::{Log, Run};
 use crate::report::Report;
 use crate::request::Request;
+use crate::sizes::{range_name, Sizes};
 use cases::{Cases, RingCases, TreeCases};
 use starts::Starts;
 use steps::{Steps, Words};
@@ -17,9 +19,6 @@ use steps::{Steps, Words};
 const ANSWERS: usize = 13;
 const CLOSED: usize = 4;
 const NOT_A_FORM: usize = 10;
-
-const RING_WORDS: Words = ["send", "take", "idle", "probe", "pass"];
-const TREE_WORDS: Words = ["send", "take", "idle", "ack", "leave"];
 
 /// The lines of a log, each with its byte 10 if it has one.
 pub fn split(bytes: &[u8]) -> impl Iterator<Item = &[u8]> {
@@ -38,15 +37,14 @@ fn number_of(answer: &[u8]) -> usize {
         .fold(0, |value, digit| 10 * value + usize::from(digit - b'0'))
 }
 
-/// What one detector met.
+/// What one detector met, on all sizes or on some.
 #[derive(Default)]
-struct Detector<C> {
+struct Part<C> {
     steps: Steps,
     cases: C,
 }
 
-impl<C: Cases> Detector<C> {
-    /// Counts a line after the first: the state before it, its request if it is a form, and its answer.
+impl<C: Cases> Part<C> {
     fn count(&mut self, state: &C::State, request: Option<Request>, answer: usize) {
         let kind = request.map_or(0, |request| request.kind);
         self.steps.count(kind, answer);
@@ -55,9 +53,36 @@ impl<C: Cases> Detector<C> {
         }
     }
 
-    fn report(&self, name: &str, words: &Words, report: &mut Report) {
-        self.steps.report(name, words, &ON_ALL, report);
-        self.cases.report(name, &ON_ALL, report);
+    fn report(&self, name: &str, words: &Words, least: &Met, report: &mut Report) {
+        self.steps.report(name, words, least, report);
+        self.cases.report(name, least, report);
+    }
+}
+
+/// What one detector met.
+#[derive(Default)]
+struct Detector<C> {
+    all: Part<C>,
+    large: Part<C>,
+    sizes: Sizes,
+}
+
+impl<C: Cases> Detector<C> {
+    /// Counts a line after the first: the state before it, its request if it is a form, and its answer.
+    fn count(&mut self, state: &C::State, request: Option<Request>, answer: usize) {
+        let n = C::n(state);
+        self.all.count(state, request, answer);
+        if C::LARGE.contains(&n) {
+            self.large.count(state, request, answer);
+        }
+        self.sizes.count(n, answer == 0);
+    }
+
+    fn report(&self, report: &mut Report) {
+        self.all.report(C::NAME, &C::WORDS, &ON_ALL, report);
+        self.sizes.report(C::NAME, &C::ASKED, C::SIZES, report);
+        let name = range_name(C::NAME, &C::LARGE);
+        self.large.report(&name, &C::WORDS, &ON_LARGE, report);
     }
 }
 
@@ -102,7 +127,7 @@ impl Tally {
 
     /// A number of both detectors' steps.
     fn both(&self, number: impl Fn(&Steps) -> usize) -> usize {
-        number(&self.ring.steps) + number(&self.tree.steps)
+        number(&self.ring.all.steps) + number(&self.tree.all.steps)
     }
 
     /// Logs and lines, and the shares of accepted lines and of lines that are no form.
@@ -127,7 +152,7 @@ impl Tally {
         self.starts.report(report);
         let announced = self.both(Steps::announced);
         report.at_least("logs announced", announced, ANNOUNCED_IN_ALL);
-        self.ring.report("ring", &RING_WORDS, report);
-        self.tree.report("tree", &TREE_WORDS, report);
+        self.ring.report(report);
+        self.tree.report(report);
     }
 }
