@@ -29,6 +29,8 @@ pub struct Met {
     pub announced: usize,
     /// Each refusal that a step can meet.
     pub refusal: usize,
+    /// Steps refused with 6 whose numbers are nodes if they are cut to 8 bits, or to 16.
+    pub cut: usize,
     /// What one condition alone decides: what a log meets once at most, what is seldom, what is not.
     pub once: usize,
     pub seldom: usize,
@@ -43,6 +45,7 @@ pub mod logs {
         kind: 10_000,
         announced: 200,
         refusal: 1_000,
+        cut: 500,
         once: 50,
         seldom: 100,
         often: 1_000,
@@ -51,6 +54,7 @@ pub mod logs {
         kind: 1_000,
         announced: 90,
         refusal: 600,
+        cut: 250,
         once: 15,
         seldom: 30,
         often: 500,

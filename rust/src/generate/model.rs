@@ -65,11 +65,13 @@ pub trait Model {
         }
     }
 
-    /// A request with a node number of N or more.
+    /// A request with a node number of N or more; cut to 8 or 16 bits some are below.
     fn beyond(&self, rng: &mut Rng) -> Request {
         let n = self.n();
-        let far = n + rng.pick(&[0, 0, 0, 1, 16, 80, 256, 65_536, 99_000]);
         let near = rng.below(n);
+        let within = rng.below(n);
+        let cut = [1 << 8 | within, 1 << 16 | within];
+        let far = rng.pick(&[n, n, n, n + 1, n + 16, n + 80, cut[0], cut[1], n + 99_000]);
         let kind = rng
             .node(6, |kind| self.words()[kind].1 > 0)
             .expect("words with a number");

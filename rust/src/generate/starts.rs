@@ -10,8 +10,12 @@ use crate::{ring, tree};
 /// a tree's root, what is no form.
 pub const CAUSES: usize = 5;
 
-/// How far above a limit a number is.
-const EXCESS: [usize; 8] = [0, 0, 1, 2, 31, 160, 65_440, 99_900];
+/// A number above `last`; cut to 8 or 16 bits some are not above it.
+fn above(rng: &mut Rng, last: usize) -> usize {
+    let within = rng.below(last + 1);
+    let cut = [1 << 8 | within, 1 << 16 | within];
+    rng.pick(&[last + 1, last + 1, last + 2, cut[0], cut[1], cut[1], 99_999])
+}
 
 /// A log whose first line is refused, turn by turn in other ways.
 pub fn refused_start(rng: &mut Rng, cause: usize, turn: usize) -> Vec<u8> {
@@ -29,7 +33,7 @@ pub fn refused_start(rng: &mut Rng, cause: usize, turn: usize) -> Vec<u8> {
 fn count(rng: &mut Rng, turn: usize, limit: usize) -> usize {
     match turn % 3 {
         0 => 0,
-        _ => (limit + 1 + rng.pick(&EXCESS)).min(99_999),
+        _ => above(rng, limit),
     }
 }
 
@@ -57,7 +61,7 @@ fn ring_list(rng: &mut Rng, turn: usize) -> String {
         .filter(|_| rng.chance(20))
         .map(|i| format!(" {i}"))
         .collect();
-    let beyond = n + rng.pick(&EXCESS).min(99_800);
+    let beyond = above(rng, n - 1);
     if turn.is_multiple_of(2) {
         format!("(ring {n} (active{below} {beyond}) (black))")
     } else {
@@ -67,7 +71,7 @@ fn ring_list(rng: &mut Rng, turn: usize) -> String {
 
 fn tree_root(rng: &mut Rng) -> String {
     let n = 1 + rng.below(tree::MAX_NODES);
-    let root = n + rng.pick(&EXCESS);
+    let root = above(rng, n - 1);
     format!("(tree {n} (root {root}))")
 }
 

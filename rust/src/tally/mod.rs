@@ -18,7 +18,11 @@ use steps::{Steps, Words};
 /// Numbers of answers: 0 is an accepted line, 1 to 12 are the refusals.
 const ANSWERS: usize = 13;
 const CLOSED: usize = 4;
+const UNKNOWN_NODE: usize = 6;
 const NOT_A_FORM: usize = 10;
+
+/// Bits to which a number of a log may be cut by mistake; its greatest is 99,999.
+const WIDTHS: [u32; 2] = [8, 16];
 
 /// The lines of a log, each with its byte 10 if it has one.
 pub fn split(bytes: &[u8]) -> impl Iterator<Item = &[u8]> {
@@ -42,6 +46,8 @@ fn number_of(answer: &[u8]) -> usize {
 struct Part<C> {
     steps: Steps,
     cases: C,
+    /// Steps refused with 6 whose numbers are nodes if they are cut to so many bits.
+    cut: [usize; WIDTHS.len()],
 }
 
 impl<C: Cases> Part<C> {
@@ -51,11 +57,24 @@ impl<C: Cases> Part<C> {
         if let Some(request) = request.filter(|_| answer != CLOSED) {
             self.cases.count(state, request, answer == 0);
         }
+        if let Some(request) = request.filter(|_| answer == UNKNOWN_NODE) {
+            self.count_cut(C::n(state), request);
+        }
+    }
+
+    fn count_cut(&mut self, n: usize, request: Request) {
+        for (count, bits) in self.cut.iter_mut().zip(WIDTHS) {
+            let is_node = |i: usize| i % (1 << bits) < n;
+            *count += usize::from(is_node(request.i) && is_node(request.j));
+        }
     }
 
     fn report(&self, name: &str, words: &Words, least: &Met, report: &mut Report) {
         self.steps.report(name, words, least, report);
         self.cases.report(name, least, report);
+        let names =
+            WIDTHS.map(|bits| format!("{name}: steps refused with 6, not if cut to {bits} bits"));
+        report.each_at_least(least.cut, names.into_iter().zip(self.cut));
     }
 }
 
