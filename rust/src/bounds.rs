@@ -84,3 +84,34 @@ pub mod logs {
     pub const ACCEPTED_PART: usize = 2;
     pub const NO_FORM_PART: usize = 10;
 }
+
+/// Of the calls on rings and on trees.
+pub mod calls {
+    use super::{asked, ring, tree, Asked, LARGE_RINGS, LARGE_TREES};
+
+    /// Starts, and steps of runs.
+    pub const STARTS: usize = 20_000;
+    pub const STEPS: usize = 600_000;
+    /// Of the steps of runs one in so many is accepted at least.
+    pub const ACCEPTED_PART: usize = 2;
+    /// Each answer.
+    pub const ANSWER: usize = 1_000;
+    pub const ANSWER_ON_LARGE: usize = 400;
+    pub const ANNOUNCED: usize = 500;
+    /// Each field broken alone.
+    pub const BROKEN: usize = 200;
+    pub const ON_RINGS: [Asked; 4] = [
+        asked(1..=1, 800, 1_500),
+        asked(2..=8, 70_000, 40_000),
+        asked(LARGE_RINGS, 120_000, 45_000),
+        asked(ring::MAX_NODES..=ring::MAX_NODES, 50_000, 18_000),
+    ];
+    pub const ON_TREES: [Asked; 4] = [
+        asked(1..=1, 900, 2_000),
+        asked(2..=5, 70_000, 45_000),
+        asked(LARGE_TREES, 100_000, 60_000),
+        asked(tree::MAX_NODES..=tree::MAX_NODES, 35_000, 20_000),
+    ];
+    /// States with each value of each byte that stands for a truth.
+    pub const TRUTHS: usize = 1_000_000;
+}

@@ -1,20 +1,24 @@
-//! How often each number was the answer to a call.
+//! How often each number was the answer to a call, on all sizes and on the large ones.
 
-use crate::LEAST;
+use second::bounds::calls::{ACCEPTED_PART, ANSWER, ANSWER_ON_LARGE};
 use second::report::Report;
+use second::sizes::range_name;
+use std::ops::RangeInclusive;
 
 /// One more than the greatest answer, the driver's 102.
 const NUMBERS: usize = 103;
 
 pub struct Answers {
-    name: &'static str,
+    name: String,
+    least: usize,
     counts: [usize; NUMBERS],
 }
 
 impl Answers {
-    pub fn new(name: &'static str) -> Self {
+    pub fn new(name: impl Into<String>) -> Self {
         Self {
-            name,
+            name: name.into(),
+            least: ANSWER,
             counts: [0; NUMBERS],
         }
     }
@@ -37,7 +41,7 @@ impl Answers {
             let name = format!("{} answered {number}", self.name);
             (name, self.of(number))
         });
-        report.each_at_least(LEAST, figures);
+        report.each_at_least(self.least, figures);
     }
 
     /// No number was answered but these.
@@ -52,13 +56,59 @@ impl Answers {
         self.report(numbers, report);
         self.report_others(numbers, report);
     }
+}
+
+/// Answers to calls on states of one detector.
+pub struct BySize {
+    all: Answers,
+    large: Answers,
+    large_sizes: RangeInclusive<usize>,
+}
+
+impl BySize {
+    pub fn new(detector: &str, large_sizes: RangeInclusive<usize>, what: &str) -> Self {
+        let large = range_name(detector, &large_sizes);
+        Self {
+            all: Answers::new(format!("{detector}: {what}")),
+            large: Answers {
+                least: ANSWER_ON_LARGE,
+                ..Answers::new(format!("{large}: {what}"))
+            },
+            large_sizes,
+        }
+    }
+
+    /// The answer to a call on `n` nodes.
+    pub fn count(&mut self, n: usize, number: u8) {
+        self.all.count(number);
+        if self.large_sizes.contains(&n) {
+            self.large.count(number);
+        }
+    }
+
+    pub fn total(&self) -> usize {
+        self.all.total()
+    }
+
+    pub fn report(&self, numbers: &[usize], report: &mut Report) {
+        self.all.report(numbers, report);
+        self.large.report(numbers, report);
+    }
+
+    pub fn report_all(&self, numbers: &[usize], report: &mut Report) {
+        self.all.report_all(numbers, report);
+        self.large.report_all(numbers, report);
+    }
 
     /// At least half of the calls were accepted, and each of `refusals` was met.
     pub fn report_half(&self, refusals: &[usize], report: &mut Report) {
-        let (name, total) = (self.name, self.total());
-        report.told(name, total);
-        report.at_least(format!("{name} accepted"), self.of(0), total.div_ceil(2));
-        self.report(refusals, report);
-        self.report_others(&[&[0], refusals].concat(), report);
+        for answers in [&self.all, &self.large] {
+            let (name, total) = (&answers.name, answers.total());
+            report.told(name, total);
+            let least = total.div_ceil(ACCEPTED_PART);
+            report.at_least(format!("{name} accepted"), answers.of(0), least);
+            answers.report(refusals, report);
+            answers.report_others(&[&[0], refusals].concat(), report);
+        }
     }
 }

@@ -3,12 +3,12 @@
 use crate::lent::{LentRing, LentTree};
 use crate::requests::request;
 use crate::{rings, texts, trees};
+use second::bounds::calls::TRUTHS;
 use second::generate::Rng;
 use second::report::Report;
 
 const ROUNDS: usize = 40;
 const VALUES: usize = 256;
-const LEAST_STATES: usize = 1_000_000;
 
 pub fn compare(seed: u64, report: &mut Report) {
     let mut random = Rng::new(seed);
@@ -20,7 +20,7 @@ pub fn compare(seed: u64, report: &mut Report) {
     report.at_least(
         "states with each value of each byte that stands for a truth",
         compared,
-        LEAST_STATES,
+        TRUTHS,
     );
 }
 

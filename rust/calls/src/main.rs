@@ -21,14 +21,6 @@ use second::ring::Ring;
 use second::walk::walk;
 use std::process::exit;
 
-/// Starts, and steps of runs, by calls on rings and as many on trees.
-const STARTS: usize = 20_000;
-const STEPS: usize = 600_000;
-/// What is asked of each answer, of announcements, and of each field broken alone.
-const LEAST: usize = 1_000;
-const LEAST_ANNOUNCED: usize = 500;
-const LEAST_BROKEN: usize = 200;
-
 fn main() {
     let seed = std::env::args()
         .nth(1)

@@ -4,7 +4,18 @@ use second::generate::{Model, Rng};
 use second::request::{Request, ANNOUNCE};
 
 /// Kinds outside 1 to 6, some of which would be within if they were cut short.
-const NO_KINDS: [usize; 9] = [0, 7, 255, 256, 257, 262, 1 << 32, 1 << 32 | 1, usize::MAX];
+const NO_KINDS: [usize; 10] = [
+    0,
+    7,
+    255,
+    256,
+    257,
+    262,
+    1 << 16 | 1,
+    1 << 32,
+    1 << 32 | 1,
+    usize::MAX,
+];
 
 /// A run from a start: busy, winding down, and some requests after its announcement.
 pub struct Course {
@@ -67,7 +78,14 @@ fn far(state: &dyn Model, random: &mut Rng) -> Request {
     let n = state.n();
     let request = state.beyond(random);
     let near = random.below(n);
-    let far = random.pick(&[n, n + 1, 1 << 8 | near, 1 << 32 | near, usize::MAX]);
+    let far = random.pick(&[
+        n,
+        n + 1,
+        1 << 8 | near,
+        1 << 16 | near,
+        1 << 32 | near,
+        usize::MAX,
+    ]);
     let further = |i: usize| if i < n { i } else { far };
     Request::new(request.kind, further(request.i), further(request.j))
 }

@@ -1,15 +1,18 @@
 //! Rings by calls: starts, the steps of whole runs, wild states, and the driver.
 
-use crate::answers::Answers;
+use crate::answers::{Answers, BySize};
 use crate::lent::LentRing;
 use crate::requests::{request, Course};
 use crate::same::{other, same_soundness, same_start, same_step};
-use crate::{fail, proved, LEAST, LEAST_ANNOUNCED, LEAST_BROKEN, STARTS, STEPS};
+use crate::{fail, proved};
+use second::bounds::calls::{ANNOUNCED, ANSWER, BROKEN, ON_RINGS, STARTS, STEPS};
+use second::bounds::LARGE_RINGS;
 use second::generate::Rng;
 use second::refusal::Refusal;
 use second::report::Report;
 use second::request::{Request, SEND_LIMIT};
 use second::ring::{Reason, Ring, Token, COLOR_BYTES, MAX_NODES, MOVE_LIMIT};
+use second::sizes::Sizes;
 
 /// The fields that are broken, one alone or two.
 const FIELDS: [&str; 10] = [
@@ -31,30 +34,33 @@ pub fn compare(seed: u64, report: &mut Report) {
 struct Rings {
     seed: u64,
     starts: Answers,
-    steps: Answers,
+    steps: BySize,
+    sizes: Sizes,
     announced: usize,
-    wild_steps: Answers,
-    soundness: Answers,
+    wild_steps: BySize,
+    soundness: BySize,
     /// Soundness of states with several fields changed that still agree in part.
-    balanced: Answers,
+    balanced: BySize,
     /// Unsound states by the field that was broken alone.
     broken: [usize; FIELDS.len()],
-    drives: Answers,
+    drives: BySize,
     moved: usize,
 }
 
 impl Rings {
     fn new(seed: u64) -> Self {
+        let answers = |what| BySize::new("ring", LARGE_RINGS, what);
         Self {
             seed,
             starts: Answers::new("ring: starts"),
-            steps: Answers::new("ring: steps of runs"),
+            steps: answers("steps of runs"),
+            sizes: Sizes::default(),
             announced: 0,
-            wild_steps: Answers::new("ring: steps of wild states"),
-            soundness: Answers::new("ring: soundness of wild states"),
-            balanced: Answers::new("ring: soundness of states in balance"),
+            wild_steps: answers("steps of wild states"),
+            soundness: answers("soundness of wild states"),
+            balanced: answers("soundness of states in balance"),
             broken: [0; FIELDS.len()],
-            drives: Answers::new("ring: drives"),
+            drives: answers("drives"),
             moved: 0,
         }
     }
@@ -84,7 +90,8 @@ impl Rings {
         let mut course = Course::new(random);
         while let Some(request) = course.next(&ring, ring.closed, random) {
             let told = same_step(self.seed, &LentRing::of(&ring), request);
-            self.steps.count(told);
+            self.steps.count(ring.n, told);
+            self.sizes.count(ring.n, told == 0);
             let was_open = !ring.closed;
             let _ = ring.step(request);
             self.announced += usize::from(ring.closed && was_open);
@@ -112,20 +119,21 @@ impl Rings {
             self.broken[field] += 1;
         }
         let lent = LentRing::of(&wild);
-        self.soundness.count(same_soundness(self.seed, &lent));
+        let (n, seed) = (ring.n, self.seed);
+        self.soundness.count(n, same_soundness(seed, &lent));
         let in_balance = LentRing::of(&other(ring, || balanced(ring, random)));
-        self.balanced.count(same_soundness(self.seed, &in_balance));
+        self.balanced.count(n, same_soundness(seed, &in_balance));
         let request = request(ring, false, random);
-        self.wild_steps.count(same_step(self.seed, &lent, request));
-        self.drives
-            .count(same_drive(self.seed, &lent, limit(random), random));
+        self.wild_steps.count(n, same_step(seed, &lent, request));
+        let told = same_drive(seed, &lent, limit(random), random);
+        self.drives.count(n, told);
     }
 
     /// A drive, from which the run goes on now and then.
     fn drive(&mut self, ring: &mut Ring, random: &mut Rng) {
         let limit = limit(random);
         let told = same_drive(self.seed, &LentRing::of(ring), limit, random);
-        self.drives.count(told);
+        self.drives.count(ring.n, told);
         let mut driven = ring.clone();
         let moves = driven.drive(limit).map_or(0, |drive| drive.moves);
         self.moved += usize::from(moves > 0);
@@ -136,24 +144,29 @@ impl Rings {
 
     fn report(&self, report: &mut Report) {
         self.starts.report_all(&[0, 1, 2], report);
-        report.at_least("ring: runs announced", self.announced, LEAST_ANNOUNCED);
+        report.at_least("ring: runs announced", self.announced, ANNOUNCED);
+        self.sizes.report("ring", &ON_RINGS, MAX_NODES, report);
         self.steps.report_half(&[4, 5, 6, 7, 8, 9], report);
         self.wild_steps.report(&[3], report);
         self.soundness.report(&[0, 1], report);
         self.balanced.report(&[0, 1], report);
         let fields = FIELDS.map(|name| format!("ring: unsound states with {name} broken alone"));
-        report.each_at_least(LEAST_BROKEN, fields.into_iter().zip(self.broken));
+        report.each_at_least(BROKEN, fields.into_iter().zip(self.broken));
         self.drives.report_all(&[3, 4, 11, 100, 101, 102], report);
         report.at_least(
             "ring: drives of runs that moved the token",
             self.moved,
-            LEAST,
+            ANSWER,
         );
     }
 }
 
 pub fn started(random: &mut Rng) -> Ring {
-    let n = random.pick(&[1, 2, 3, 5, 8, 17, MAX_NODES]);
+    let n = match random.below(4) {
+        0 => random.pick(&[1, MAX_NODES]),
+        1 | 2 => 2 + random.below(7),
+        _ => 1 + random.below(MAX_NODES),
+    };
     let flags: Vec<u8> = (0..n).map(|_| random.below(4) as u8).collect();
     Ring::start(n, &flags).expect("a start in range")
 }
@@ -171,12 +184,22 @@ fn near_send_limit(random: &mut Rng) -> Ring {
     ring
 }
 
+/// Numbers of nodes outside 1 to 96, some of which would be within if they were cut short.
+const NO_COUNTS: [usize; 6] = [
+    0,
+    MAX_NODES + 1,
+    1 << 8 | 1,
+    1 << 16 | 1,
+    1 << 32 | 1,
+    usize::MAX,
+];
+
 /// Numbers of nodes and flags in range and about it.
 fn flags(random: &mut Rng) -> (usize, Vec<u8>) {
     let nodes = match random.below(3) {
         0 => 1 + random.below(MAX_NODES),
         1 => random.pick(&[1, 2, MAX_NODES - 1, MAX_NODES]),
-        _ => random.pick(&[0, MAX_NODES + 1, 1 << 8 | 1, 1 << 32 | 1, usize::MAX]),
+        _ => random.pick(&NO_COUNTS),
     };
     let fitting = nodes.min(MAX_NODES + 1);
     let length = match random.below(6) {

@@ -1,18 +1,31 @@
 //! Trees by calls: starts, the steps of whole runs, and wild states.
 
-use crate::answers::Answers;
+use crate::answers::{Answers, BySize};
 use crate::lent::LentTree;
+use crate::proved;
 use crate::requests::{request, Course};
 use crate::same::{other, same_soundness, same_start, same_step};
-use crate::{proved, LEAST_ANNOUNCED, LEAST_BROKEN, STARTS, STEPS};
+use second::bounds::calls::{ANNOUNCED, BROKEN, ON_TREES, STARTS, STEPS};
+use second::bounds::LARGE_TREES;
 use second::generate::Rng;
 use second::report::Report;
 use second::request::{Request, SEND_LIMIT};
+use second::sizes::Sizes;
 use second::tree::{Tree, MAX_NODES, NONE};
 
 /// The fields that are broken, one alone or two.
 const FIELDS: [&str; 9] = [
     "n", "root", "active", "engager", "unacked", "transit", "acks", "sends", "closed",
+];
+
+/// Numbers of nodes outside 1 to 16, some of which would be within if they were cut short.
+const NO_COUNTS: [usize; 6] = [
+    0,
+    MAX_NODES + 1,
+    1 << 8 | 1,
+    1 << 16 | 1,
+    1 << 32 | 1,
+    usize::MAX,
 ];
 
 pub fn compare(seed: u64, report: &mut Report) {
@@ -30,37 +43,40 @@ pub fn compare(seed: u64, report: &mut Report) {
 struct Trees {
     seed: u64,
     starts: Answers,
-    steps: Answers,
+    steps: BySize,
+    sizes: Sizes,
     announced: usize,
-    wild_steps: Answers,
-    soundness: Answers,
+    wild_steps: BySize,
+    soundness: BySize,
     /// Soundness of states with several fields changed that still agree in part.
-    balanced: Answers,
+    balanced: BySize,
     /// Unsound states by the field that was broken alone.
     broken: [usize; FIELDS.len()],
 }
 
 impl Trees {
     fn new(seed: u64) -> Self {
+        let answers = |what| BySize::new("tree", LARGE_TREES, what);
         Self {
             seed,
             starts: Answers::new("tree: starts"),
-            steps: Answers::new("tree: steps of runs"),
+            steps: answers("steps of runs"),
+            sizes: Sizes::default(),
             announced: 0,
-            wild_steps: Answers::new("tree: steps of wild states"),
-            soundness: Answers::new("tree: soundness of wild states"),
-            balanced: Answers::new("tree: soundness of states in balance"),
+            wild_steps: answers("steps of wild states"),
+            soundness: answers("soundness of wild states"),
+            balanced: answers("soundness of states in balance"),
             broken: [0; FIELDS.len()],
         }
     }
 
     fn start(&mut self, random: &mut Rng) {
         let nodes = match random.below(3) {
-            0 => random.pick(&[0, MAX_NODES + 1, 1 << 8 | 1, 1 << 32 | 1, usize::MAX]),
+            0 => random.pick(&NO_COUNTS),
             _ => 1 + random.below(MAX_NODES),
         };
         let root = match random.below(3) {
-            0 => random.pick(&[nodes, MAX_NODES, 1 << 8, 1 << 32, usize::MAX]),
+            0 => random.pick(&[nodes, MAX_NODES, 1 << 8, 1 << 16, 1 << 32, usize::MAX]),
             _ => random.below(nodes.clamp(1, MAX_NODES)),
         };
         let told = same_start(
@@ -82,7 +98,8 @@ impl Trees {
         let mut course = Course::new(random);
         while let Some(request) = course.next(&tree, tree.closed, random) {
             let told = same_step(self.seed, &LentTree::of(&tree), request);
-            self.steps.count(told);
+            self.steps.count(tree.n, told);
+            self.sizes.count(tree.n, told == 0);
             let was_open = !tree.closed;
             let _ = tree.step(request);
             self.announced += usize::from(tree.closed && was_open);
@@ -107,27 +124,33 @@ impl Trees {
             self.broken[field] += 1;
         }
         let lent = LentTree::of(&wild);
-        self.soundness.count(same_soundness(self.seed, &lent));
+        let (n, seed) = (tree.n, self.seed);
+        self.soundness.count(n, same_soundness(seed, &lent));
         let in_balance = LentTree::of(&other(tree, || balanced(tree, random)));
-        self.balanced.count(same_soundness(self.seed, &in_balance));
+        self.balanced.count(n, same_soundness(seed, &in_balance));
         let request = request(tree, false, random);
-        self.wild_steps.count(same_step(self.seed, &lent, request));
+        self.wild_steps.count(n, same_step(seed, &lent, request));
     }
 
     fn report(&self, report: &mut Report) {
         self.starts.report_all(&[0, 1, 6], report);
-        report.at_least("tree: runs announced", self.announced, LEAST_ANNOUNCED);
+        report.at_least("tree: runs announced", self.announced, ANNOUNCED);
+        self.sizes.report("tree", &ON_TREES, MAX_NODES, report);
         self.steps.report_half(&[4, 5, 6, 7, 8, 9], report);
         self.wild_steps.report(&[3], report);
         self.soundness.report(&[0, 1], report);
         self.balanced.report(&[0, 1], report);
         let fields = FIELDS.map(|name| format!("tree: unsound states with {name} broken alone"));
-        report.each_at_least(LEAST_BROKEN, fields.into_iter().zip(self.broken));
+        report.each_at_least(BROKEN, fields.into_iter().zip(self.broken));
     }
 }
 
 fn started(random: &mut Rng) -> Tree {
-    let n = random.pick(&[1, 2, 3, 4, 7, 12, MAX_NODES]);
+    let n = match random.below(4) {
+        0 => random.pick(&[1, MAX_NODES]),
+        1 => 2 + random.below(4),
+        _ => 1 + random.below(MAX_NODES),
+    };
     Tree::start(n, random.below(n)).expect("a start in range")
 }
 
