@@ -115,3 +115,17 @@ pub mod calls {
     /// States with each value of each byte that stands for a truth.
     pub const TRUTHS: usize = 1_000_000;
 }
+
+/// Of the texts of trees.
+pub mod texts {
+    pub const TREES: usize = 40_000;
+    /// Texts that are written and then read back.
+    pub const WRITTEN: usize = 20_000;
+    /// Of these, texts with a node of two digits.
+    pub const TWO_DIGITS: usize = 2_500;
+    /// Texts answered 6 for a number of so many digits or more, and as many answered 10 since it begins with a zero.
+    pub const LONG_DIGITS: usize = 6;
+    pub const LONG: usize = 4_000;
+    /// Texts answered 6 for a number that is a node if it is cut to 8, to 16, to 32 or to 64 bits.
+    pub const CUT: usize = 500;
+}

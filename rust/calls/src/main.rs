@@ -7,6 +7,7 @@
 mod answers;
 mod flags;
 mod lent;
+mod numbers;
 mod proved;
 mod requests;
 mod rings;

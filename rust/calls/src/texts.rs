@@ -1,23 +1,24 @@
-//! The text of the tree: random trees out and back, short buffers, unsound trees, and damaged texts.
+//! The text of the tree: random trees out and back, short buffers, unsound trees, damaged texts, and numbers of many digits.
 
 use crate::answers::Answers;
 use crate::lent::{bytes, LentTree};
+use crate::numbers::{with_long_number, Numbers};
 use crate::{fail, proved};
+use second::bounds::texts::{TREES, TWO_DIGITS, WRITTEN};
 use second::generate::{Model, Rng};
 use second::refusal::Refusal;
 use second::report::Report;
+use second::request::{Request, SEND, TAKE};
 use second::text;
 use second::tree::{Tree, MAX_NODES};
-
-const TREES: usize = 30_000;
-/// Texts that are written and then read back.
-const LEAST_WRITTEN: usize = 20_000;
 
 pub fn compare(seed: u64, report: &mut Report) {
     let mut random = Rng::new(seed);
     let mut written = Answers::new("texts written");
     let mut read = Answers::new("texts read back");
     let mut damaged = Answers::new("damaged texts read");
+    let mut numbers = Numbers::default();
+    let mut two_digits = 0;
     for _ in 0..TREES {
         same_text(seed, &noise(&mut random), &mut random);
         let tree = LentTree::of(&grown(&mut random));
@@ -27,32 +28,67 @@ pub fn compare(seed: u64, report: &mut Report) {
             continue;
         }
         read.count(read_back(seed, &tree, &text, &mut random));
+        two_digits += usize::from(has_two_digits(&text));
+        let mut read_damaged = |n: usize, text: &[u8], random: &mut Rng| {
+            let told = same_reading(seed, n, text, random).0;
+            damaged.count(told);
+            numbers.count(n, text, told);
+        };
         for _ in 0..5 {
             let (n, text) = damage(tree.n, &text, &mut random);
-            damaged.count(same_reading(seed, n, &text, &mut random).0);
+            read_damaged(n, &text, &mut random);
         }
+        let text = with_long_number(tree.n, &text, &mut random);
+        read_damaged(tree.n, &text, &mut random);
     }
     written.report_all(&[0, 3, 12], report);
     let (name, count) = ("texts written and read back", read.total());
-    report.at_least(name, count, LEAST_WRITTEN);
+    report.at_least(name, count, WRITTEN);
     read.report_all(&[0], report);
+    report.at_least(
+        "texts read back with a node of two digits",
+        two_digits,
+        TWO_DIGITS,
+    );
     damaged.report_all(&[0, 1, 6, 10], report);
+    numbers.report(report);
 }
 
-/// A tree after allowed steps, now and then spoiled.
+fn has_two_digits(text: &[u8]) -> bool {
+    text.windows(2)
+        .any(|pair| pair.iter().all(u8::is_ascii_digit))
+}
+
+/// A tree after allowed steps, or after messages that are taken at once, so that many nodes are engaged; now and then spoiled.
 pub fn grown(random: &mut Rng) -> Tree {
     let n = 1 + random.below(MAX_NODES);
     let mut tree = Tree::start(n, random.below(n)).expect("a start in range");
-    for _ in 0..random.below(60) {
-        match tree.allowed(random, false) {
-            Some(request) => tree.step(request).expect("an allowed step"),
-            None => break,
+    if n > 1 && random.chance(50) {
+        for _ in 0..random.below(3 * n) {
+            hand_over(&mut tree, random);
+        }
+    } else {
+        for _ in 0..random.below(60) {
+            match tree.allowed(random, false) {
+                Some(request) => tree.step(request).expect("an allowed step"),
+                None => break,
+            }
         }
     }
     if random.chance(10) {
         tree.engager[random.below(MAX_NODES)] = random.below(MAX_NODES + 1);
     }
     tree
+}
+
+/// A message from an active node, taken at once.
+fn hand_over(tree: &mut Tree, random: &mut Rng) {
+    let n = tree.n;
+    let i = random.node(n, |i| tree.active[i]).expect("an active root");
+    let j = (i + 1 + random.below(n - 1)) % n;
+    for request in [Request::new(SEND, i, j), Request::new(TAKE, j, i)] {
+        tree.step(request).expect("an allowed step");
+    }
 }
 
 /// Noise in every field; now and then with truths that are 0 or 1 and nodes in range.
@@ -67,10 +103,19 @@ fn noise(random: &mut Rng) -> LentTree {
     tree
 }
 
+/// Room for the text, just enough or one byte too little now and then.
+fn room(tree: &LentTree, random: &mut Rng) -> usize {
+    let mut text = [0; 80];
+    let tree = tree.tree();
+    let written = tree.and_then(|tree| text::write(&tree, &mut text).ok());
+    let length = written.unwrap_or(text.len());
+    random.pick(&[0, length - 1, length, length + 1, 69, text.len()])
+}
+
 /// The second implementation's answer, and the text that the proved function wrote, if it did; a
 /// byte that is no truth is an unsound state.
 pub fn same_text(seed: u64, tree: &LentTree, random: &mut Rng) -> (u8, Vec<u8>) {
-    let room = random.pick(&[0, 3, 10, 40, 69, 80]);
+    let room = room(tree, random);
     let mut ours: Vec<u8> = (0..room).map(|_| random.below(256) as u8).collect();
     let noise = random.word() as usize;
     let (mut theirs, mut length) = (ours.clone(), noise);
