@@ -14,44 +14,70 @@ use second::tree::{Tree, MAX_NODES};
 
 pub fn compare(seed: u64, report: &mut Report) {
     let mut random = Rng::new(seed);
-    let mut written = Answers::new("texts written");
-    let mut read = Answers::new("texts read back");
-    let mut damaged = Answers::new("damaged texts read");
-    let mut numbers = Numbers::default();
-    let mut two_digits = 0;
+    let mut texts = Texts::new(seed);
     for _ in 0..TREES {
         same_text(seed, &noise(&mut random), &mut random);
-        let tree = LentTree::of(&grown(&mut random));
-        let (told, text) = same_text(seed, &tree, &mut random);
-        written.count(told);
-        if told != 0 {
-            continue;
-        }
-        read.count(read_back(seed, &tree, &text, &mut random));
-        two_digits += usize::from(has_two_digits(&text));
-        let mut read_damaged = |n: usize, text: &[u8], random: &mut Rng| {
-            let told = same_reading(seed, n, text, random).0;
-            damaged.count(told);
-            numbers.count(n, text, told);
-        };
-        for _ in 0..5 {
-            let (n, text) = damage(tree.n, &text, &mut random);
-            read_damaged(n, &text, &mut random);
-        }
-        let text = with_long_number(tree.n, &text, &mut random);
-        read_damaged(tree.n, &text, &mut random);
+        texts.tree(&grown(&mut random), &mut random);
     }
-    written.report_all(&[0, 3, 12], report);
-    let (name, count) = ("texts written and read back", read.total());
-    report.at_least(name, count, WRITTEN);
-    read.report_all(&[0], report);
-    report.at_least(
-        "texts read back with a node of two digits",
-        two_digits,
-        TWO_DIGITS,
-    );
-    damaged.report_all(&[0, 1, 6, 10], report);
-    numbers.report(report);
+    texts.report(report);
+}
+
+struct Texts {
+    seed: u64,
+    written: Answers,
+    read: Answers,
+    /// Texts read back with a node of two digits.
+    two_digits: usize,
+    damaged: Answers,
+    numbers: Numbers,
+}
+
+impl Texts {
+    fn new(seed: u64) -> Self {
+        Self {
+            seed,
+            written: Answers::new("texts written"),
+            read: Answers::new("texts read back"),
+            two_digits: 0,
+            damaged: Answers::new("damaged texts read"),
+            numbers: Numbers::default(),
+        }
+    }
+
+    /// The text of a tree, read back and damaged if it was written.
+    fn tree(&mut self, tree: &Tree, random: &mut Rng) {
+        let tree = LentTree::of(tree);
+        let (told, text) = same_text(self.seed, &tree, random);
+        self.written.count(told);
+        if told != 0 {
+            return;
+        }
+        self.read.count(read_back(self.seed, &tree, &text, random));
+        self.two_digits += usize::from(has_two_digits(&text));
+        for _ in 0..5 {
+            let (n, text) = damage(tree.n, &text, random);
+            self.damaged(n, &text, random);
+        }
+        let text = with_long_number(tree.n, &text, random);
+        self.damaged(tree.n, &text, random);
+    }
+
+    fn damaged(&mut self, n: usize, text: &[u8], random: &mut Rng) {
+        let told = same_reading(self.seed, n, text, random).0;
+        self.damaged.count(told);
+        self.numbers.count(n, text, told);
+    }
+
+    fn report(&self, report: &mut Report) {
+        self.written.report_all(&[0, 3, 12], report);
+        let (name, count) = ("texts written and read back", self.read.total());
+        report.at_least(name, count, WRITTEN);
+        self.read.report_all(&[0], report);
+        let name = "texts read back with a node of two digits";
+        report.at_least(name, self.two_digits, TWO_DIGITS);
+        self.damaged.report_all(&[0, 1, 6, 10], report);
+        self.numbers.report(report);
+    }
 }
 
 fn has_two_digits(text: &[u8]) -> bool {
