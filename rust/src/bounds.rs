@@ -116,6 +116,19 @@ pub mod calls {
     pub const TRUTHS: usize = 1_000_000;
 }
 
+/// The numbers that each call answers: each has to be met, and no other.
+pub mod answers {
+    pub const RING_START: [usize; 3] = [0, 1, 2];
+    pub const RING_DRIVE: [usize; 6] = [3, 4, 11, 100, 101, 102];
+    pub const TREE_START: [usize; 3] = [0, 1, 6];
+    pub const TREE_WRITE: [usize; 3] = [0, 3, 12];
+    pub const TREE_READ: [usize; 4] = [0, 1, 6, 10];
+    /// The refusals of a step on a sound state; beside these it answers 0, or 3 if the state is not sound.
+    pub const OF_SOUND: [usize; 6] = [4, 5, 6, 7, 8, 9];
+    /// No or yes.
+    pub const IS_SOUND: [usize; 2] = [0, 1];
+}
+
 /// Of the texts of trees.
 pub mod texts {
     pub const TREES: usize = 40_000;

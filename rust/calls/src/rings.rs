@@ -5,6 +5,7 @@ use crate::lent::LentRing;
 use crate::requests::{request, Course};
 use crate::same::{other, same_soundness, same_start, same_step};
 use crate::{fail, proved};
+use second::bounds::answers::{IS_SOUND, OF_SOUND, RING_DRIVE, RING_START};
 use second::bounds::calls::{ANNOUNCED, ANSWER, BROKEN, ON_RINGS, STARTS, STEPS};
 use second::bounds::LARGE_RINGS;
 use second::generate::Rng;
@@ -143,16 +144,16 @@ impl Rings {
     }
 
     fn report(&self, report: &mut Report) {
-        self.starts.report_all(&[0, 1, 2], report);
+        self.starts.report_all(&RING_START, report);
         report.at_least("ring: runs announced", self.announced, ANNOUNCED);
         self.sizes.report("ring", &ON_RINGS, MAX_NODES, report);
-        self.steps.report_half(&[4, 5, 6, 7, 8, 9], report);
+        self.steps.report_half(&OF_SOUND, report);
         self.wild_steps.report(&[3], report);
-        self.soundness.report(&[0, 1], report);
-        self.balanced.report(&[0, 1], report);
+        self.soundness.report_all(&IS_SOUND, report);
+        self.balanced.report_all(&IS_SOUND, report);
         let fields = FIELDS.map(|name| format!("ring: unsound states with {name} broken alone"));
         report.each_at_least(BROKEN, fields.into_iter().zip(self.broken));
-        self.drives.report_all(&[3, 4, 11, 100, 101, 102], report);
+        self.drives.report_all(&RING_DRIVE, report);
         report.at_least(
             "ring: drives of runs that moved the token",
             self.moved,

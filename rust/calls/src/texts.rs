@@ -4,6 +4,7 @@ use crate::answers::Answers;
 use crate::lent::{bytes, LentTree};
 use crate::numbers::{with_long_number, Numbers};
 use crate::{fail, proved};
+use second::bounds::answers::{TREE_READ, TREE_WRITE};
 use second::bounds::texts::{TREES, TWO_DIGITS, WRITTEN};
 use second::generate::{Model, Rng};
 use second::refusal::Refusal;
@@ -69,13 +70,13 @@ impl Texts {
     }
 
     fn report(&self, report: &mut Report) {
-        self.written.report_all(&[0, 3, 12], report);
+        self.written.report_all(&TREE_WRITE, report);
         let (name, count) = ("texts written and read back", self.read.total());
         report.at_least(name, count, WRITTEN);
         self.read.report_all(&[0], report);
         let name = "texts read back with a node of two digits";
         report.at_least(name, self.two_digits, TWO_DIGITS);
-        self.damaged.report_all(&[0, 1, 6, 10], report);
+        self.damaged.report_all(&TREE_READ, report);
         self.numbers.report(report);
     }
 }

@@ -5,6 +5,7 @@ use crate::lent::LentTree;
 use crate::proved;
 use crate::requests::{request, Course};
 use crate::same::{other, same_soundness, same_start, same_step};
+use second::bounds::answers::{IS_SOUND, OF_SOUND, TREE_START};
 use second::bounds::calls::{ANNOUNCED, BROKEN, ON_TREES, STARTS, STEPS};
 use second::bounds::LARGE_TREES;
 use second::generate::Rng;
@@ -133,13 +134,13 @@ impl Trees {
     }
 
     fn report(&self, report: &mut Report) {
-        self.starts.report_all(&[0, 1, 6], report);
+        self.starts.report_all(&TREE_START, report);
         report.at_least("tree: runs announced", self.announced, ANNOUNCED);
         self.sizes.report("tree", &ON_TREES, MAX_NODES, report);
-        self.steps.report_half(&[4, 5, 6, 7, 8, 9], report);
+        self.steps.report_half(&OF_SOUND, report);
         self.wild_steps.report(&[3], report);
-        self.soundness.report(&[0, 1], report);
-        self.balanced.report(&[0, 1], report);
+        self.soundness.report_all(&IS_SOUND, report);
+        self.balanced.report_all(&IS_SOUND, report);
         let fields = FIELDS.map(|name| format!("tree: unsound states with {name} broken alone"));
         report.each_at_least(BROKEN, fields.into_iter().zip(self.broken));
     }
