@@ -4,7 +4,7 @@ use crate::repository::read;
 use std::collections::BTreeMap;
 
 /// `MUZSERLIK_NAME = NUMBER` on a line of the header; the same name twice is a fault.
-fn told(header: &str) -> BTreeMap<String, u64> {
+pub fn told(header: &str) -> BTreeMap<String, u64> {
     let mut found = BTreeMap::new();
     for line in header.lines() {
         let Some(rest) = line.trim().strip_prefix("MUZSERLIK_") else {
@@ -35,7 +35,7 @@ fn constant(owner: &str, name: &str) -> u64 {
 }
 
 /// The arms of a match over an enum, `TYPE::NAME => NUMBER,`.
-fn arms(owner: &str, of: &str) -> Vec<(String, u64)> {
+pub fn arms(owner: &str, of: &str) -> Vec<(String, u64)> {
     let code = read(format!("crates/{owner}/src/lib.rt"));
     let arm = |line: &str| {
         let (name, number) = line.trim().strip_prefix(of)?.split_once(" => ")?;
@@ -45,7 +45,7 @@ fn arms(owner: &str, of: &str) -> Vec<(String, u64)> {
 }
 
 /// The kinds of a detector's steps, `NUMBER => NAME(..),`.
-fn kinds(owner: &str) -> Vec<(String, u64)> {
+pub fn kinds(owner: &str) -> Vec<(String, u64)> {
     let code = read(format!("crates/{owner}/src/lib.rt"));
     let arm = |line: &str| {
         let (number, call) = line.trim().split_once(" => ")?;
@@ -71,7 +71,7 @@ fn text_bytes() -> u64 {
 }
 
 /// `SendLimit` is `SEND_LIMIT`.
-fn upper(name: &str) -> String {
+pub fn upper(name: &str) -> String {
     let mut upper = String::new();
     for (k, c) in name.chars().enumerate() {
         if c.is_uppercase() && k > 0 {

@@ -115,3 +115,58 @@ pub fn list(text: &str) -> Vec<String> {
         .filter(|word| !word.is_empty())
         .collect()
 }
+
+/// The phrases that a text does not have. Where one begins or ends with a number, it is the whole of that number.
+pub fn lost_phrases(text: &str, phrases: &[String]) -> Vec<String> {
+    let text = text.split_whitespace().collect::<Vec<_>>().join(" ");
+    let is_whole = |at: usize, end: usize| {
+        let mut after = text[end..].trim_start_matches(',').chars();
+        !text[..at].ends_with(|c: char| c.is_ascii_digit() || c == ',')
+            && !after.next().is_some_and(|c| c.is_ascii_digit())
+    };
+    let has = |phrase: &&String| {
+        let mut found = text.match_indices(phrase.as_str());
+        found.any(|(at, phrase)| is_whole(at, at + phrase.len()))
+    };
+    phrases
+        .iter()
+        .filter(|phrase| !has(phrase))
+        .cloned()
+        .collect()
+}
+
+/// `1384582` is `1,384,582`.
+pub fn in_thousands(number: usize) -> String {
+    let digits = number.to_string();
+    let mut found = String::new();
+    for (k, digit) in digits.chars().enumerate() {
+        if k > 0 && (digits.len() - k).is_multiple_of(3) {
+            found.push(',');
+        }
+        found.push(digit);
+    }
+    found
+}
+
+#[test]
+fn a_phrase_is_found_whole() {
+    let lost = |text: &str| lost_phrases(text, &["69 bytes, at least 1,000".to_owned()]).len();
+    for text in [
+        "69 bytes, at least 1,000",
+        "(69 bytes,\n  at least 1,000)",
+        "169 bytes, or 69 bytes, at least 1,000, or",
+    ] {
+        assert_eq!(lost(text), 0, "{text}");
+    }
+    for text in [
+        "169 bytes, at least 1,000",
+        "1,69 bytes, at least 1,000",
+        "69 bytes, at least 1,0001",
+        "69 bytes, at least 1,000,000",
+        "70 bytes, at least 1,000",
+    ] {
+        assert_eq!(lost(text), 1, "{text}");
+    }
+    assert_eq!(in_thousands(1_384_582), "1,384,582");
+    assert_eq!(in_thousands(100), "100");
+}
