@@ -17,6 +17,11 @@ fn there() -> BTreeSet<Edit> {
     crates().into_iter().flat_map(edits_of).collect()
 }
 
+/// Whether a crate has an edit of that label.
+pub fn is_edit(owner: &str, label: &str) -> bool {
+    there().contains(&(owner.to_owned(), label.to_owned()))
+}
+
 /// The headings of the last columns that name edits.
 const COLUMNS: [&str; 3] = ["Edits", "Refused wrong answers", "Edits that are refused"];
 

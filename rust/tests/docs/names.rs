@@ -1,8 +1,9 @@
 //! Every name that a page gives is declared: `name`, `Record.part`, `.part` of a record named before it in the same row or paragraph,
-//! `Type::method`, `crate::function`; where a place stands beside it, in that place; in a column of the ring or of the tree, not by the other
-//! detector's crates. Every path and file is there.
+//! `Type::method`, `crate::function`, or a must-fail edit of the crate that is named just before it; where a place stands beside it, in that
+//! place; in a column of the ring or of the tree, not by the other detector's crates. Every path and file is there.
 
 use crate::declared::{declared, File, Name};
+use crate::edits::is_edit;
 use crate::places::{is_name, misplaced};
 use crate::repository::{cells, crates, files, read, tables, top};
 use std::collections::BTreeSet;
@@ -130,11 +131,13 @@ fn undeclared(page: &str) -> Vec<String> {
     let mut found = Vec::new();
     for (side, text) in texts(page) {
         let mut records = Vec::new();
+        let mut before = "";
         for span in spans(&text) {
             let skipped = WORDS.contains(&span) || !is_name(span);
-            if !skipped && !is_declared(span, side, &mut records) {
+            if !skipped && !is_declared(span, side, &mut records) && !is_edit(before, span) {
                 found.push(span.to_owned());
             }
+            before = span;
         }
     }
     for paragraph in paragraphs(page) {
@@ -212,6 +215,13 @@ fn an_invented_name_is_found() {
     assert_eq!(undeclared(page), [".nowhere", "Ring::stop", "invented"]);
     let page = "crates/ring/src, crates/nowhere/src, Nowhere.antt";
     assert_eq!(lost_files(page), ["crates/nowhere/src", "Nowhere.antt"]);
+}
+
+#[test]
+fn an_edit_stands_after_its_crate() {
+    let page =
+        "`log_state`'s `held_count_kept`, `log_tree`'s `held_count_kept`, `log_state`'s `invented`";
+    assert_eq!(undeclared(page), ["held_count_kept", "invented"]);
 }
 
 #[test]
