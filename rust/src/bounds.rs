@@ -29,7 +29,7 @@ pub struct Met {
     pub announced: usize,
     /// Each refusal that a step can meet.
     pub refusal: usize,
-    /// Steps refused with 6 whose numbers are nodes if they are cut to 8 bits, or to 16.
+    /// Steps refused with 6 whose numbers are nodes if they are cut to each of some widths.
     pub cut: usize,
     /// What one condition alone decides: what a log meets once at most, what is seldom, what is not.
     pub once: usize,
@@ -76,6 +76,8 @@ pub mod logs {
     pub const TREE_SIZES: usize = 12;
     /// Passes of a white token by black nodes of each byte of colors.
     pub const BLACKENED: usize = 25;
+    /// Bits to which a number may be cut by mistake; the greatest of a log is 99,999.
+    pub const WIDTHS: [u32; 2] = [8, 16];
     pub const ANNOUNCED_IN_ALL: usize = 500;
     /// Each refusal of a first line, and each cause of refusal 10.
     pub const STARTS: usize = 50;
@@ -123,6 +125,10 @@ pub mod answers {
     pub const TREE_START: [usize; 3] = [0, 1, 6];
     pub const TREE_WRITE: [usize; 3] = [0, 3, 12];
     pub const TREE_READ: [usize; 4] = [0, 1, 6, 10];
+    /// The refusals that a step of a log can meet. The others cannot come: 1 and 2, since they are a start's; 3, since a run keeps its state sound;
+    /// 5, since each word has a kind; 9, since it needs 1,000,000 accepted sends before it and a log has at most 999,999 lines after its first; 11
+    /// and 12, since a log has no driver and the text of the tree always has room.
+    pub const OF_LOG: [usize; 5] = [4, 6, 7, 8, 10];
     /// The refusals of a step on a sound state; beside these it answers 0, or 3 if the state is not sound.
     pub const OF_SOUND: [usize; 6] = [4, 5, 6, 7, 8, 9];
     /// No or yes.
@@ -132,6 +138,8 @@ pub mod answers {
 /// Of the texts of trees.
 pub mod texts {
     pub const TREES: usize = 40_000;
+    /// Changed texts of each that is written, beside the one with another number.
+    pub const DAMAGED: usize = 5;
     /// Texts that are written and then read back.
     pub const WRITTEN: usize = 20_000;
     /// Of these, texts with a node of two digits.
@@ -139,6 +147,7 @@ pub mod texts {
     /// Texts answered 6 for a number of so many digits or more, and as many answered 10 since it begins with a zero.
     pub const LONG_DIGITS: usize = 6;
     pub const LONG: usize = 4_000;
-    /// Texts answered 6 for a number that is a node if it is cut to 8, to 16, to 32 or to 64 bits.
+    /// Texts answered 6 for a number that is a node if it is cut to each of these numbers of bits.
     pub const CUT: usize = 500;
+    pub const WIDTHS: [u32; 4] = [8, 16, 32, 64];
 }

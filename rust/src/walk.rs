@@ -20,13 +20,13 @@ const N: usize = 3;
 
 /// The three figures of document 001's table.
 pub struct Figures {
-    diameter: usize,
-    distinct: usize,
-    generated: usize,
+    pub diameter: usize,
+    pub distinct: usize,
+    pub generated: usize,
 }
 
 /// The table publishes them cut to one decimal: 60, 1.3 million and 10.1 million.
-const FULL: Figures = Figures {
+pub const FULL: Figures = Figures {
     diameter: 60,
     distinct: 1_384_582,
     generated: 10_150_343,

@@ -1,13 +1,10 @@
 //! Numbers of many digits in the text of a tree: of n or more whatever they are, and below n if they were cut short.
 
-use second::bounds::texts::{CUT, LONG, LONG_DIGITS};
+use second::bounds::texts::{CUT, LONG, LONG_DIGITS, WIDTHS};
 use second::generate::Rng;
 use second::refusal::Refusal;
 use second::report::Report;
 use second::text;
-
-/// Bits to which a number may be cut by mistake.
-const WIDTHS: [u32; 4] = [8, 16, 32, 64];
 
 /// The text with another number in the place of one, and now and then something else after it.
 pub fn with_long_number(n: usize, text: &[u8], random: &mut Rng) -> Vec<u8> {

@@ -5,7 +5,7 @@ use crate::lent::{bytes, LentTree};
 use crate::numbers::{with_long_number, Numbers};
 use crate::{fail, proved};
 use second::bounds::answers::{TREE_READ, TREE_WRITE};
-use second::bounds::texts::{TREES, TWO_DIGITS, WRITTEN};
+use second::bounds::texts::{DAMAGED, TREES, TWO_DIGITS, WRITTEN};
 use second::generate::{Model, Rng};
 use second::refusal::Refusal;
 use second::report::Report;
@@ -55,7 +55,7 @@ impl Texts {
         }
         self.read.count(read_back(self.seed, &tree, &text, random));
         self.two_digits += usize::from(has_two_digits(&text));
-        for _ in 0..5 {
+        for _ in 0..DAMAGED {
             let (n, text) = damage(tree.n, &text, random);
             self.damaged(n, &text, random);
         }

@@ -5,7 +5,9 @@ mod cases;
 mod starts;
 mod steps;
 
-use crate::bounds::logs::{ACCEPTED_PART, ANNOUNCED_IN_ALL, NO_FORM_PART, ON_ALL, ON_LARGE};
+use crate::bounds::logs::{
+    ACCEPTED_PART, ANNOUNCED_IN_ALL, NO_FORM_PART, ON_ALL, ON_LARGE, WIDTHS,
+};
 use crate::bounds::Met;
 use crate::log::{Log, Run};
 use crate::report::Report;
@@ -20,9 +22,6 @@ const ANSWERS: usize = 13;
 const CLOSED: usize = 4;
 const UNKNOWN_NODE: usize = 6;
 const NOT_A_FORM: usize = 10;
-
-/// Bits to which a number of a log may be cut by mistake; its greatest is 99,999.
-const WIDTHS: [u32; 2] = [8, 16];
 
 /// The lines of a log, each with its byte 10 if it has one.
 pub fn split(bytes: &[u8]) -> impl Iterator<Item = &[u8]> {

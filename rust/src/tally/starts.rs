@@ -1,7 +1,7 @@
 //! The answers to first lines.
 
-use super::{ANSWERS, NOT_A_FORM, WIDTHS};
-use crate::bounds::logs::{CAUSES, STARTS};
+use super::{ANSWERS, NOT_A_FORM};
+use crate::bounds::logs::{CAUSES, STARTS, WIDTHS};
 use crate::decimal;
 use crate::log::{run, LINE_BYTES};
 use crate::report::Report;

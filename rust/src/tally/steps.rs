@@ -1,19 +1,13 @@
 //! The answers to one detector's steps.
 
 use super::ANSWERS;
+use crate::bounds::answers::OF_LOG;
 use crate::bounds::Met;
 use crate::report::Report;
 use crate::request::ANNOUNCE;
 
 /// Kinds of steps, and 0 for none.
 const KINDS: usize = 7;
-
-/// The refusals that a step of a log can meet. The others cannot come: 1 and 2, since
-/// they are a start's; 3, since a run keeps its state sound; 5, since each word has a
-/// kind; 9, since it needs 1,000,000 accepted sends before it and a log has at most
-/// 999,999 lines after its first; 11 and 12, since a log has no driver and the text of
-/// the tree always has room.
-const OF_STEPS: [usize; 5] = [4, 6, 7, 8, 10];
 
 /// The words of a detector's kinds but announce.
 pub type Words = [&'static str; ANNOUNCE - 1];
@@ -62,12 +56,12 @@ impl Steps {
         report.at_least(announced, self.announced(), least.announced);
         report.each_at_least(
             least.refusal,
-            OF_STEPS.map(|number| {
+            OF_LOG.map(|number| {
                 let name = format!("{name}: steps refused with {number}");
                 (name, self.refused[number])
             }),
         );
-        let others = (0..ANSWERS).filter(|number| !OF_STEPS.contains(number));
+        let others = (0..ANSWERS).filter(|number| !OF_LOG.contains(number));
         report.at_most(
             format!("{name}: steps refused with another number"),
             others.map(|number| self.refused[number]).sum(),

@@ -116,23 +116,27 @@ pub fn list(text: &str) -> Vec<String> {
         .collect()
 }
 
-/// The phrases that a text does not have. Where one begins or ends with a number, it is the whole of that number.
-pub fn lost_phrases(text: &str, phrases: &[String]) -> Vec<String> {
-    let text = text.split_whitespace().collect::<Vec<_>>().join(" ");
-    let is_whole = |at: usize, end: usize| {
-        let mut after = text[end..].trim_start_matches(',').chars();
-        !text[..at].ends_with(|c: char| c.is_ascii_digit() || c == ',')
+/// A text with one space in the place of each gap.
+pub fn joined(text: &str) -> String {
+    text.split_whitespace().collect::<Vec<_>>().join(" ")
+}
+
+/// Where a phrase stands in a text. Where it begins or ends with a number, it is the whole of that number.
+pub fn places_of(text: &str, phrase: &str) -> Vec<usize> {
+    let is_whole = |at: &usize| {
+        let mut after = text[at + phrase.len()..].trim_start_matches(',').chars();
+        !text[..*at].ends_with(|c: char| c.is_ascii_digit() || c == ',')
             && !after.next().is_some_and(|c| c.is_ascii_digit())
     };
-    let has = |phrase: &&String| {
-        let mut found = text.match_indices(phrase.as_str());
-        found.any(|(at, phrase)| is_whole(at, at + phrase.len()))
-    };
-    phrases
-        .iter()
-        .filter(|phrase| !has(phrase))
-        .cloned()
-        .collect()
+    let found = text.match_indices(phrase).map(|(at, _)| at);
+    found.filter(is_whole).collect()
+}
+
+/// The phrases that a text does not have.
+pub fn lost_phrases(text: &str, phrases: &[String]) -> Vec<String> {
+    let text = joined(text);
+    let is_lost = |phrase: &&String| places_of(&text, phrase).is_empty();
+    phrases.iter().filter(is_lost).cloned().collect()
 }
 
 /// `1384582` is `1,384,582`.

@@ -1,0 +1,311 @@
+//! "Comparisons with the second implementation" in docs/PROMISES.md: every number there is a bound of the comparisons, or in a phrase that is
+//! known to be none.
+
+use crate::repository::{in_thousands, joined, lost_phrases, places_of, read, section, tables};
+use second::bounds::{answers, calls, logs, texts, Asked, LARGE_RINGS, LARGE_TREES};
+use second::log::LINE_LIMIT;
+use second::sizes::range_name;
+use second::walk::FULL;
+use second::{ring, tree};
+
+const HEADING: &str = "## Comparisons with the second implementation";
+
+/// Numbers that are no bounds.
+const OTHERS: [&str; 3] = ["node 0", "document 001", "N = 3"];
+
+fn page() -> String {
+    read("docs/PROMISES.md")
+}
+
+/// The numbers of logs and of lines that the gate compares.
+fn compared(gate: &str) -> [usize; 2] {
+    let (_, rest) = gate
+        .split_once("--bin compare -- target/bin/watch ")
+        .expect("it");
+    let mut numbers = rest
+        .split_whitespace()
+        .map(|word| word.parse().expect("a number"));
+    [(); 2].map(|()| numbers.next().expect("two numbers"))
+}
+
+/// `half`, `a tenth`.
+fn share(part: usize) -> &'static str {
+    match part {
+        2 => "half",
+        10 => "a tenth",
+        _ => panic!("no word for one in {part}"),
+    }
+}
+
+/// `4, 6 and 8`.
+fn enumerated<T: ToString>(numbers: &[T], last: &str) -> String {
+    let words: Vec<String> = numbers.iter().map(T::to_string).collect();
+    let (end, rest) = words.split_last().expect("a number");
+    format!("{} {last} {end}", rest.join(", "))
+}
+
+/// `rings of 9 to 96 nodes and trees of 6 to 16`.
+fn large() -> String {
+    let (rings, trees) = (
+        range_name("rings", &LARGE_RINGS),
+        range_name("trees", &LARGE_TREES),
+    );
+    format!("{rings} nodes and {trees}")
+}
+
+/// The phrase with numbers in the places of `{}`.
+fn filled(phrase: &str, numbers: &[usize]) -> String {
+    let numbers = numbers.iter().map(|&number| in_thousands(number));
+    numbers.fold(phrase.to_owned(), |text, number| {
+        text.replacen("{}", &number, 1)
+    })
+}
+
+fn of_logs() -> Vec<String> {
+    let [count, lines] = compared(&read(".ci/run"));
+    let millions = (lines + 2 * LINE_LIMIT as usize) / 1_000_000;
+    let by_seed = "on {} logs by seed and two past the limit of lines, {} million lines";
+    let (accepted, no_form) = (share(logs::ACCEPTED_PART), share(logs::NO_FORM_PART));
+    let announced = "{} logs announced, {} of each";
+    vec![
+        filled(by_seed, &[count, millions]),
+        format!("after a first at least {accepted} accepted and at most {no_form} no form"),
+        filled(announced, &[logs::ANNOUNCED_IN_ALL, logs::ON_ALL.announced]),
+        filled("refusal of a first line {} times", &[logs::STARTS]),
+        filled("each cause of 10 there {} times", &[logs::CAUSES]),
+    ]
+}
+
+fn of_steps() -> Vec<String> {
+    let met = &logs::ON_ALL;
+    let refusals = enumerated(&answers::OF_LOG, "and") + " at least {} times each on rings";
+    let widths = enumerated(&logs::WIDTHS, "or");
+    let cut = format!("6 for numbers that are nodes if they are cut to {widths} bits {{}} times");
+    vec![
+        filled(&refusals, &[met.refusal]),
+        filled(&cut, &[met.cut]),
+        filled(
+            "each kind of step but announce accepted {} times",
+            &[met.kind],
+        ),
+        filled("announcement refusing alone {} times", &[met.once]),
+        filled("of a leaving deciding alone {} times", &[met.seldom]),
+        filled("; {} receipts behind the token |", &[met.often]),
+    ]
+}
+
+fn of_large_sizes() -> Vec<String> {
+    let met = &logs::ON_LARGE;
+    vec![
+        format!("| of these, {} |", large()),
+        filled("the same refusals {} times each on each", &[met.refusal]),
+        filled("6 for numbers to be cut {} times", &[met.cut]),
+        filled("each kind {} times", &[met.kind]),
+        filled("{} logs announced of each", &[met.announced]),
+        filled("announcement alone {} times", &[met.once]),
+        filled("the other tests and reasons {} times", &[met.seldom]),
+        filled("; {} receipts behind the token;", &[met.often]),
+        filled("of each byte of colors {} times", &[logs::BLACKENED]),
+    ]
+}
+
+fn of_calls() -> Vec<String> {
+    let starts = "{} starts into noise and {} steps each";
+    let refusals = [&[3], &answers::OF_SOUND[..]].concat();
+    let (first, last) = (refusals[0], refusals[refusals.len() - 1]);
+    let on_large = format!("on {} each answer but a start's {{}} times", large());
+    vec![
+        filled(starts, &[calls::STARTS, calls::STEPS]),
+        format!(
+            "at least {} of the steps accepted",
+            share(calls::ACCEPTED_PART)
+        ),
+        filled(
+            "{} to {} at least {} times each",
+            &[first, last, calls::ANSWER],
+        ),
+        filled("{} runs announced on each", &[calls::ANNOUNCED]),
+        filled("drives and of soundness {} times", &[calls::ANSWER]),
+        filled(&on_large, &[calls::ANSWER_ON_LARGE]),
+        filled("each field broken alone {} times", &[calls::BROKEN]),
+        filled("{} states with a byte for a truth", &[calls::TRUTHS]),
+    ]
+}
+
+fn of_texts() -> Vec<String> {
+    let widths = enumerated(&texts::WIDTHS, "or");
+    let cut = format!("6 for a number that is a node if it is cut to {widths} bits {{}} times");
+    let long = "6 for a number of {} digits or more {} times, 10 where it";
+    vec![
+        filled("texts of {} trees", &[texts::TREES]),
+        filled("each then damaged {} times", &[texts::DAMAGED]),
+        filled("{} written and read back", &[texts::WRITTEN]),
+        filled("{} of them with a node of two digits", &[texts::TWO_DIGITS]),
+        filled("each answer {} times;", &[calls::ANSWER]),
+        filled(long, &[texts::LONG_DIGITS, texts::LONG]),
+        filled(&cut, &[texts::CUT]),
+    ]
+}
+
+/// The figures in full, and as they are published: cut to one decimal.
+fn of_walk() -> Vec<String> {
+    let figures = [FULL.diameter, FULL.distinct, FULL.generated];
+    let cut = |number: usize| format!("{}.{} million", number / 1_000_000, number / 100_000 % 10);
+    let (distinct, generated) = (cut(FULL.distinct), cut(FULL.generated));
+    vec![
+        filled("diameter {}, {} distinct and {} generated states", &figures),
+        format!("published are {}, {distinct}, {generated} |", FULL.diameter),
+    ]
+}
+
+fn phrases() -> Vec<String> {
+    [
+        of_logs(),
+        of_steps(),
+        of_large_sizes(),
+        of_calls(),
+        of_texts(),
+        of_walk(),
+    ]
+    .concat()
+}
+
+/// A row of the table of sizes.
+fn row(name: &str, asked: &[Asked], met: usize) -> Vec<String> {
+    let steps = |asked: &Asked| {
+        let [accepted, refused] = [asked.accepted, asked.refused].map(in_thousands);
+        format!("{accepted} and {refused}")
+    };
+    let cells = asked.iter().map(steps);
+    [name.to_owned()]
+        .into_iter()
+        .chain(cells)
+        .chain([met.to_string()])
+        .collect()
+}
+
+/// The table of sizes, which is the section's second.
+fn sizes() -> Vec<Vec<String>> {
+    let both = logs::ON_RINGS.iter().zip(&logs::ON_TREES);
+    let range = |asked: &Asked| range_name("", &asked.nodes).replace(" of ", "");
+    let ranges = both.map(|(ring, tree)| format!("{} (tree: {})", range(ring), range(tree)));
+    let head = ["Steps".to_owned()]
+        .into_iter()
+        .chain(ranges)
+        .chain(["Met".to_owned()]);
+    vec![
+        head.collect(),
+        row("logs, rings", &logs::ON_RINGS, logs::RING_SIZES),
+        row("logs, trees", &logs::ON_TREES, logs::TREE_SIZES),
+        row("calls, rings", &calls::ON_RINGS, ring::MAX_NODES),
+        row("calls, trees", &calls::ON_TREES, tree::MAX_NODES),
+    ]
+}
+
+/// The section without the table of sizes.
+fn text(page: &str) -> String {
+    let text = section(page, HEADING);
+    let end = text.find("\n| Steps |").unwrap_or(text.len());
+    joined(&text[..end])
+}
+
+/// What is left of a text with numbers in it once the phrases are struck out.
+fn left_over(text: &str, phrases: &[String]) -> Vec<String> {
+    let mut text = text.to_owned();
+    let others = OTHERS.map(str::to_owned);
+    for phrase in phrases.iter().chain(&others) {
+        for at in places_of(&text, phrase).into_iter().rev() {
+            text.replace_range(at..at + phrase.len(), "~");
+        }
+    }
+    text.split(['~', ';'])
+        .filter(|part| part.contains(|c: char| c.is_ascii_digit()))
+        .map(str::to_owned)
+        .collect()
+}
+
+#[test]
+fn the_numbers_are_the_bounds() {
+    let text = text(&page());
+    assert_eq!(lost_phrases(&text, &phrases()), Vec::<String>::new());
+    assert_eq!(left_over(&text, &phrases()), Vec::<String>::new());
+}
+
+/// The logs by seed and the two long ones, where the pages tell their number by the way.
+#[test]
+fn the_number_of_logs_is_told() {
+    let [count, _] = compared(&read(".ci/run"));
+    let told = [filled("{} logs", &[count + 2])];
+    for page in ["README.md", "docs/PROMISES.md"] {
+        assert_eq!(lost_phrases(&read(page), &told), Vec::<String>::new());
+    }
+}
+
+#[test]
+fn the_table_of_sizes_is_what_is_asked() {
+    let page = page();
+    assert_eq!(tables(section(&page, HEADING)).get(1), Some(&sizes()));
+    assert_eq!(calls_ranges(), logs_ranges());
+}
+
+fn logs_ranges() -> Vec<String> {
+    let asked = logs::ON_RINGS.iter().chain(&logs::ON_TREES);
+    asked.map(|asked| range_name("", &asked.nodes)).collect()
+}
+
+fn calls_ranges() -> Vec<String> {
+    let asked = calls::ON_RINGS.iter().chain(&calls::ON_TREES);
+    asked.map(|asked| range_name("", &asked.nodes)).collect()
+}
+
+#[test]
+fn a_number_that_is_no_bound_is_found() {
+    let phrases = ["at least 1,000 times".to_owned(), "50 logs".to_owned()];
+    let good = "4 at least 1,000 times; 50 logs; node 0";
+    assert_eq!(lost_phrases(good, &phrases), Vec::<String>::new());
+    assert_eq!(left_over(good, &phrases), ["4 "]);
+    let other = "at least 10,000 times; 50 logs, and 70 rings";
+    assert_eq!(lost_phrases(other, &phrases), ["at least 1,000 times"]);
+    assert_eq!(
+        left_over(other, &phrases),
+        ["at least 10,000 times", ", and 70 rings"]
+    );
+}
+
+#[test]
+fn another_number_in_the_section_is_found() {
+    let page = text(&page());
+    for (told, other) in [
+        ("2,000 logs", "3,000 logs"),
+        ("at least half", "at least a third"),
+        ("a tenth", "a fifth"),
+        ("10,000 times", "20,000 times"),
+        ("500 logs announced", "600 logs announced"),
+        ("600,000 steps", "700,000 steps"),
+        ("20,000 written", "30,000 written"),
+        ("1,384,582", "1,384,583"),
+        ("10.1 million", "10.2 million"),
+    ] {
+        assert!(page.contains(told), "{told}");
+        let changed = page.replace(told, other);
+        assert_ne!(
+            lost_phrases(&changed, &phrases()),
+            Vec::<String>::new(),
+            "{other}"
+        );
+    }
+}
+
+#[test]
+fn another_row_of_sizes_is_found() {
+    let asked = &logs::ON_RINGS;
+    assert_ne!(row("logs, rings", asked, 1), row("logs, rings", asked, 2));
+    assert_ne!(
+        row("logs, rings", asked, 1),
+        row("logs, rings", &logs::ON_TREES, 1)
+    );
+    assert_eq!(
+        compared("run --bin compare -- target/bin/watch 20 1000\nx"),
+        [20, 1000]
+    );
+}
