@@ -13,6 +13,7 @@ pub mod report;
 pub mod request;
 pub mod ring;
 pub mod sizes;
+pub mod statements;
 pub mod tally;
 pub mod text;
 pub mod tree;

@@ -1,7 +1,7 @@
 -- Calls on a ring, one by one and in lists. Assumes nothing.
 use Prim.Native.Nat.{_<_, _≤_, suc, zero, ℕ}
 use mathlib.Core.Bool.{Bool, cond, false, true}
-use mathlib.Core.List.{List, [], _++_, _∷_}
+use mathlib.Core.List.{List, [], _∷_}
 use mathlib.Core.Logic.{_⊎_, inl, inr}
 use mathlib.Core.Path.{_∙_, _≡_, ap, refl, subst, sym}
 use lib.Dec.{eqb}
@@ -10,7 +10,7 @@ use native.Mathlib.Omega.{arith}
 use Rattle.laws.proofs.Tests.{split}
 use Rattle.lent.proofs.Calls.{calls-answer}
 use Rattle.lent.proofs.Sound.{fields-hold}
-use Rattle.lent.specs.Ring.{Lent, driveFields, driveMoves, driveNumber, lentOf, stateOf, stepFields, stepNumber}
+use Rattle.lent.specs.Ring.{Lent, driveFields, driveMoves, driveNumber, lentOf, stepFields, stepNumber}
 use Rattle.refusal.specs.Table.{codeOf, settle}
 use Rattle.refusal.specs.declared.Verdict.{Verdict}
 use Rattle.refusal.specs.declared.Refusal.{Refusal}

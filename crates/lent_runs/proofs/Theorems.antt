@@ -1,6 +1,6 @@
 -- Demand 3 of calls. Assumes nothing.
 use Prim.Native.Nat.{_*_, _-_, _≤_, ℕ}
-use mathlib.Core.Bool.{Bool, _&&_, _||_, cond, false, true}
+use mathlib.Core.Bool.{Bool, _||_, false, true}
 use mathlib.Core.List.{List}
 use mathlib.Core.Logic.{_↔_}
 use mathlib.Core.Path.{_∙_, _≡_, ap, refl, subst, sym}
@@ -9,8 +9,8 @@ use Rattle.flag_bytes.specs.Flags.{byteOf, flagOf}
 use Rattle.laws.proofs.Tests.{both}
 use Rattle.lent.proofs.Calls.{calls-answer}
 use Rattle.lent.proofs.Sound.{fields-hold}
-use Rattle.lent.specs.Ring.{Lent, StartedTo, lentOf, soundNumber, stateOf, truthsTest}
-use Rattle.lent.specs.Tree.{LentTree, TreeStartedTo, lentTreeOf, treeOf, treeSoundNumber, treeStepNumber, treeTruthsTest}
+use Rattle.lent.specs.Ring.{Lent, lentOf, stateOf, truthsTest}
+use Rattle.lent.specs.Tree.{LentTree, lentTreeOf, treeOf, treeStepNumber, treeTruthsTest}
 use Rattle.refusal.proofs.Table.{code-accepted}
 use Rattle.refusal.specs.Table.{codeOf}
 use Rattle.refusal.specs.declared.Verdict.{Verdict}

@@ -1,5 +1,4 @@
 -- Steps on a tree, one by one and in lists. Assumes nothing.
-use Prim.Native.Nat.{ℕ}
 use mathlib.Core.List.{List, [], _∷_}
 use mathlib.Core.Path.{_∙_, _≡_, ap, refl}
 use Rattle.lent.proofs.Calls.{calls-answer}

@@ -3,27 +3,16 @@
 //! Prints a row for each crate: lines of code, definitions, statements and proofs, the
 //! number of must-fail edits, seconds of its check, and seconds of its edits.
 
+use second::statements::STATEMENT_FILES;
 use std::collections::BTreeMap;
 use std::fs;
 use std::io;
 use std::path::Path;
 use std::process::ExitCode;
 
-/// Files of `specs/` that hold statements; the others hold definitions.
-const STATEMENTS: [&str; 8] = [
-    "Agreement",
-    "Cases",
-    "Exact",
-    "Examples",
-    "Listing",
-    "Theorems",
-    "WholeLog",
-    "WholeRun",
-];
-
-/// Those files, the tables' rows, and all of `instances`.
+/// The files of statements, the tables' rows, and all of `instances`.
 fn is_statement(crate_name: &str, stem: &str) -> bool {
-    STATEMENTS.contains(&stem)
+    STATEMENT_FILES.contains(&stem)
         || (stem.starts_with("Table") && stem != "Table")
         || (crate_name == "instances" && stem != "Lib")
 }

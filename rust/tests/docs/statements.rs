@@ -4,19 +4,8 @@
 
 use crate::items::{items, words, Id, Imports, Item};
 use crate::repository::{crates, files, read, top};
+use second::statements::STATEMENT_FILES;
 use std::collections::{BTreeMap, BTreeSet};
-
-/// The files of `specs/` that hold statements: to be assumed by a function (`requires`) is not enough for those.
-const FILES: [&str; 8] = [
-    "Agreement",
-    "Cases",
-    "Exact",
-    "Examples",
-    "Listing",
-    "Theorems",
-    "WholeLog",
-    "WholeRun",
-];
 
 /// Statements about one side of an equivalence, or about each of several inputs, and what proves them; their names do not follow the rule.
 const OTHERWISE: [(&str, &str, &str); 4] = [
@@ -191,7 +180,7 @@ impl Specs {
 }
 
 fn is_statement(path: &str) -> bool {
-    FILES
+    STATEMENT_FILES
         .iter()
         .any(|file| path.ends_with(&format!("/{file}.antt")))
 }

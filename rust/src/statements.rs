@@ -1,0 +1,12 @@
+//! Which files of the crates' `specs/` hold statements; the others hold definitions.
+
+pub const STATEMENT_FILES: [&str; 8] = [
+    "Agreement",
+    "Cases",
+    "Exact",
+    "Examples",
+    "Listing",
+    "Theorems",
+    "WholeLog",
+    "WholeRun",
+];
