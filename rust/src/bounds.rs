@@ -114,8 +114,10 @@ pub mod calls {
         asked(LARGE_TREES, 100_000, 60_000),
         asked(tree::MAX_NODES..=tree::MAX_NODES, 35_000, 20_000),
     ];
-    /// States with each value of each byte that stands for a truth.
-    pub const TRUTHS: usize = 1_000_000;
+    /// Bytes above 1 at each place for a truth, each call answering as of what is not sound.
+    pub const NO_TRUTH: usize = 10_000;
+    /// Bytes 0 and 1 there, told as sound.
+    pub const TRUTH: usize = 500;
 }
 
 /// The numbers that each call answers: each has to be met, and no other.

@@ -1,5 +1,5 @@
 -- Calls on a ring, one by one and in lists. Assumes nothing.
-use Prim.Native.Nat.{_<_, _≤_, suc, zero, ℕ}
+use Prim.Native.Nat.{_<_, suc, zero, ℕ}
 use mathlib.Core.Bool.{Bool, cond, false, true}
 use mathlib.Core.List.{List, [], _∷_}
 use mathlib.Core.Logic.{_⊎_, inl, inr}
@@ -11,22 +11,24 @@ use Rattle.laws.proofs.Tests.{split}
 use Rattle.lent.proofs.Calls.{calls-answer}
 use Rattle.lent.proofs.Sound.{fields-hold}
 use Rattle.lent.specs.Ring.{Lent, driveFields, driveMoves, driveNumber, lentOf, stepFields, stepNumber}
+use Rattle.refusal.proofs.Table.{number-range}
 use Rattle.refusal.specs.Table.{codeOf, settle}
 use Rattle.refusal.specs.declared.Verdict.{Verdict}
+use Rattle.refusal.specs.declared.Verdict.the-variants.{Accepted}
 use Rattle.refusal.specs.declared.Refusal.{Refusal}
 use Rattle.ring_rules.proofs.Driver.{drive-closed, drive-over, may-rule, move-open}
-use Rattle.ring_rules.proofs.Accepted.{Rule, accepted}
+use Rattle.ring_rules.proofs.Accepted.{Rule, accepted, announces, conclusive-true}
 use Rattle.ring_rules.proofs.Theorems.{driver-counts}
-use Rattle.ring_rules.specs.Answers.{Answer}
+use Rattle.ring_rules.specs.Answers.{Answer, verdictOf}
 use Rattle.ring_rules.specs.Driver.{Driven, driveOf, mayMove, moveLimit, moveOf, moved, reasonNumber, reasonVerdict, stopAt}
-use Rattle.ring_rules.specs.Rules.{Kind, Pass, Probe, effect, kindOf}
+use Rattle.ring_rules.specs.Rules.{Announce, Kind, Pass, Probe, effect, kindOf}
 use Rattle.ring_rules.specs.Soundness.{Open, Sound}
 use Rattle.ring_rules.specs.State.{State}
 use Rattle.ring_rules.specs.declared.Reason.the-variants.{Stopped}
-use Rattle.ring_rules.specs.Theorems.{Ended, TokenMove, concluded, passing, probing, spends, waits}
+use Rattle.ring_rules.specs.Theorems.{Drives, Ended, TokenMove, concluded, passing, probing, spends, waits}
 use Rattle.ring_runs.proofs.Trace.{run-sound}
 use Rattle.ring_runs.proofs.WholeRun.{whole-runs}
-use Rattle.ring_runs.specs.Counts.{AllMoves, move-first, no-request, ring}
+use Rattle.ring_runs.specs.Counts.{AllMoves, kind, move-first, no-request, ring}
 use Rattle.runs.proofs.Runs.{run-append, run-of}
 use Rattle.runs.specs.Runs.{Accepts, Request, acceptedOf, next, runOf}
 use Rattle.lent_runs.specs.Ring.{RingCall, drive, fieldsAfter, fieldsLeft, moveRequest, moveRequests, requestsIn, requestsOf, step}
@@ -109,7 +111,7 @@ module _ (r : State) (m : ℕ) where
   pub drive-told : driveNumber (lentOf r) m ≡ reasonNumber (driveOf r m .reason)
   drive-told = calls-answer .drive r {limit = m} {moves = 0} (record { told = refl; made = refl; fields = refl }) .0
 
-  drive-left : driveFields (lentOf r) m ≡ lentOf (driveOf r m .state)
+  pub drive-left : driveFields (lentOf r) m ≡ lentOf (driveOf r m .state)
   drive-left = calls-answer .drive r {limit = m} {moves = 0} (record { told = refl; made = refl; fields = refl }) .1
 
   ended-moves : (d : Driven) → Ended d m → told-moves d ≡ d .moves
@@ -117,12 +119,27 @@ module _ (r : State) (m : ℕ) where
   ended-moves d (waits p _ _ _ _) = rw p
   ended-moves d (spends p _ _ _ _) = rw p
 
+  -- a drive of a sound ring is refused, or makes its moves
+  data DriveCase : Type 0 where
+    refused : {e : Refusal} → driveOf r m ≡ stopAt (Stopped e) 0 r → DriveCase
+    driven : Open r → Drives r m (driveOf r m) → DriveCase
+
+  drive-case : Sound r → DriveCase
+  drive-case s = go (split (r .closed)) (decLt moveLimit m)
+    where
+      go : (r .closed ≡ true) ⊎ (r .closed ≡ false) → Dec (moveLimit < m) → DriveCase
+      go (inl c) h = refused (drive-closed r m s c)
+      go (inr c) (yes h) = refused (drive-over r m (record { sound = s; running = c }) h)
+      go (inr c) (no h) =
+          let o : Open r = record { sound = s; running = c } in
+          driven o (driver-counts .drives r m o (omega arith))
+
   drive-run : Sound r → DriveRun r m
   unfolding moveRequests runOf acceptedOf
-  drive-run s = go (split (r .closed)) (decLt moveLimit m)
+  drive-run s = go (drive-case s)
     where
-      refused : {e : Refusal} → driveOf r m ≡ stopAt (Stopped e) 0 r → DriveRun r m
-      refused p =
+      go : DriveCase → DriveRun r m
+      go (refused p) =
           record {
             made = drive-made ∙ ap told-moves p ∙ sym (ap (λ (d : Driven). d .moves) p);
             run = ap (λ (d : Driven). runOf ring r (moveRequests (d .moves) r)) p ∙ sym (ap (λ (d : Driven). d .state) p);
@@ -131,10 +148,7 @@ module _ (r : State) (m : ℕ) where
                 ∙ sym (ap (λ (d : Driven). moveRequests (d .moves) r) p);
             sound = subst (λ (d : Driven). Sound (d .state)) (sym p) s;
           }
-
-      driven : Open r → m ≤ moveLimit → DriveRun r m
-      driven o h =
-          let d = driver-counts .drives r m o h in
+      go (driven o d) =
           let c = moves-run (driveOf r m .moves) r o (λ j k. d .before j k .1) in
           record {
             made = drive-made ∙ ended-moves (driveOf r m) (d .end);
@@ -143,10 +157,20 @@ module _ (r : State) (m : ℕ) where
             sound = d .sound .sound;
           }
 
-      go : (r .closed ≡ true) ⊎ (r .closed ≡ false) → Dec (moveLimit < m) → DriveRun r m
-      go (inl c) h = refused (drive-closed r m s c)
-      go (inr c) (yes h) = refused (drive-over r m (record { sound = s; running = c }) h)
-      go (inr c) (no h) = driven (record { sound = s; running = c }) (omega arith)
+  -- where it tells 100, an announcement is accepted next
+  pub announce-next : Sound r → reasonNumber (driveOf r m .reason) ≡ 100 → (x : Request) → kind x ≡ Announce → Accepts ring (driveOf r m .state) x
+  announce-next s e x k = go (drive-case s)
+    where
+      ended : (d : Driven) → reasonNumber (d .reason) ≡ 100 → Open (d .state) → Ended d m → Accepts ring (d .state) x
+      ended d n o (concluded _ _ c) =
+          subst (λ (z : Kind). verdictOf (d .state) z (x .i) (x .j) ≡ Accepted) (sym k)
+          (accepted (d .state) Announce (x .i) (x .j) o (announces (conclusive-true (d .state) c)))
+      ended d n o (waits _ w _ _ _) = absurd (omega (arith, n, w))
+      ended d n o (spends _ w _ _ _) = absurd (omega (arith, n, w))
+
+      go : DriveCase → Accepts ring (driveOf r m .state) x
+      go (refused {e = f} p) = absurd (omega (arith, number-range f .1, sym (ap (λ (d : Driven). reasonNumber (d .reason)) p) ∙ e))
+      go (driven o d) = ended (driveOf r m) e (d .sound) (d .end)
 
   -- what the call comes to as requests
   drive-requests : Sound r → requestsOf (lentOf r) (drive m) ≡ moveRequests (driveOf r m .moves) r

@@ -22,6 +22,7 @@ use Rattle.ring_rules.proofs.Driver as ringDriver
 use Rattle.ring_rules.proofs.Theorems as ringRules
 use Rattle.ring_rules.specs.Answers as ringAnswers
 use Rattle.ring_rules.specs.Driver as ringDrive
+use Rattle.ring_rules.specs.Rules as ringSteps
 use Rattle.ring_rules.specs.Soundness as ringSound
 use Rattle.ring_rules.specs.Start as ringStart
 use Rattle.ring_rules.specs.State as ringState
@@ -39,7 +40,7 @@ use Rattle.tree_runs.proofs.WholeRun as treeRun
 use Rattle.tree_runs.specs.Counts as treeCounts
 use Rattle.lent_runs.proofs.Ring as rings
 use Rattle.lent_runs.proofs.Tree as trees
-use Rattle.lent_runs.specs.Ring.{RingCall, drive, fieldsAfter, numberTold, requestsIn, requestsOf, step}
+use Rattle.lent_runs.specs.Ring.{RingCall, drive, fieldsAfter, fieldsLeft, numberTold, requestsIn, requestsOf, step}
 use Rattle.lent_runs.specs.Theorems.{RingCalls, TreeCalls, WholeCalls}
 use Rattle.lent_runs.specs.Tree.{treeFieldsAfter}
 
@@ -78,6 +79,17 @@ module _ (r : ringState.State) (o : ringSound.Open r) (cs : List RingCall) where
       ∙ ringRules.driver-counts .quiet here m o-here hi (ringRun.by-quiet r o xs q)
       (omega (arith, lo, ringTrace.run-n (run-of ringCounts.ring r xs))) .1
 
+  announces :
+      (m : ℕ) → numberTold (fieldsAfter (lentOf r) cs) (drive m) ≡ 100 → (x : Request) → ringCounts.kind x ≡ ringSteps.Announce
+      → numberTold (fieldsLeft (fieldsAfter (lentOf r) cs) (drive m)) (step x) ≡ 0
+  announces m e x k =
+      let n = sym (ap (λ (l : Lent). numberTold l (drive m)) fields ∙ rings.drive-told here m) ∙ e in
+      let after : ringState.State = ringDrive.driveOf here m .state in
+      ap (λ (l : Lent). numberTold (fieldsLeft l (drive m)) (step x)) fields
+      ∙ ap (λ (l : Lent). numberTold l (step x)) (rings.drive-left here m)
+      ∙ rings.step-told after x
+      ∙ ap codeOf (rings.announce-next here m sound-here n x k)
+
   last-told : here .closed ≡ true → (c : RingCall) → numberTold (lentOf here) c ≡ 4
   last-told e (step x) =
       rings.step-told here x
@@ -99,6 +111,7 @@ module _ (r : ringState.State) (o : ringSound.Open r) (cs : List RingCall) where
         quiet = λ x k z. ringRun.whole-runs .point r o xs .quiet x k (zero-accepted _ _ (told x) .0 z);
         last = λ a c. ap (λ (l : Lent). numberTold l c) fields ∙ last-told (closed-here a) c;
         concludes = concludes;
+        announces = announces;
       }
 
 -- ---- the tree

@@ -1,4 +1,5 @@
--- Demand 3 of calls: lists of them on one ring or tree that is lent, refused ones included, are runs.
+-- Demand 3 of calls: lists of steps and drives on one ring that is lent, and of steps on one tree, refused ones included, are runs. A start begins a
+-- new list; soundness and texts only read what is lent.
 use Prim.Native.Nat.{_*_, _-_, _≤_, ℕ}
 use mathlib.Core.List.{List}
 use mathlib.Core.Logic.{_↔_}
@@ -19,7 +20,7 @@ use Rattle.tree_rules.specs.Start as treeStart
 use Rattle.tree_rules.specs.State as treeState
 use Rattle.tree_runs.specs.Counts as treeCounts
 use Rattle.tree_runs.specs.WholeRun as treeRun
-use Rattle.lent_runs.specs.Ring.{RingCall, drive, fieldsAfter, numberTold, requestsIn, requestsOf, step}
+use Rattle.lent_runs.specs.Ring.{RingCall, drive, fieldsAfter, fieldsLeft, numberTold, requestsIn, requestsOf, step}
 use Rattle.lent_runs.specs.Tree.{treeFieldsAfter}
 
 -- After the calls cs on the fields of the ring r, which come to the requests xs.
@@ -33,7 +34,7 @@ pub record RingCalls (r : ringState.State) (cs : List RingCall) (xs : List Reque
       (m : ℕ) → ringCounts.AllMoves (requestsOf (fieldsAfter (lentOf r) cs) (drive m))
       × (acceptedOf ringCounts.ring (runOf ringCounts.ring r xs) (requestsOf (fieldsAfter (lentOf r) cs) (drive m))
       ≡ requestsOf (fieldsAfter (lentOf r) cs) (drive m))
-  -- demand 3 of that run; an announcement is told 0 only if it is quiet; after it every call tells 4
+  -- demand 3 of that run; an announcement is told 0 only if it is quiet; after it every step and drive tells 4
   pub point : ringRun.Point r xs
   pub quiet :
       (x : Request) → ringCounts.kind x ≡ ringRules.Announce → numberTold (fieldsAfter (lentOf r) cs) (step x) ≡ 0 → ringCounts.QuietBy r xs
@@ -42,6 +43,10 @@ pub record RingCalls (r : ringState.State) (cs : List RingCall) (xs : List Reque
   pub concludes :
       ringCounts.QuietBy r xs → ringCounts.Unannounced r xs → (m : ℕ) → 3 * r .n - 2 ≤ m → m ≤ ringDrive.moveLimit
       → numberTold (fieldsAfter (lentOf r) cs) (drive m) ≡ 100
+  -- and whenever a drive tells 100, an announcement is told 0 next
+  pub announces :
+      (m : ℕ) → numberTold (fieldsAfter (lentOf r) cs) (drive m) ≡ 100 → (x : Request) → ringCounts.kind x ≡ ringRules.Announce
+      → numberTold (fieldsLeft (fieldsAfter (lentOf r) cs) (drive m)) (step x) ≡ 0
 
 -- After the steps xs on the fields of the tree t.
 pub record TreeCalls (t : treeState.State) (xs : List Request) : Type 0 where
@@ -56,7 +61,7 @@ pub record TreeCalls (t : treeState.State) (xs : List Request) : Type 0 where
   pub last :
       treeCounts.Announced t xs → (x : Request) → treeStepNumber (treeFieldsAfter (lentTreeOf t) xs) (x .kind) (x .i) (x .j) ≡ 4
 
--- for every list of calls on the fields of every sound state that is not yet announced
+-- for every such list on the fields of every sound state that is not yet announced
 pub record WholeCalls : Type 0 where
   pub ring : (r : ringState.State) → ringSound.Open r → (cs : List RingCall) → RingCalls r cs (requestsIn (lentOf r) cs)
   pub tree : (t : treeState.State) → treeSound.Open t → (xs : List Request) → TreeCalls t xs

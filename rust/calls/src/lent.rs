@@ -22,6 +22,10 @@ impl LentRing {
     /// How many bytes stand for truths.
     pub const FLAGS: usize = ring::MAX_NODES + 2;
 
+    pub fn flags(&self) -> Vec<u8> {
+        [&self.active[..], &[self.black, self.closed]].concat()
+    }
+
     /// The k-th of them: the nodes', the token's, the run's.
     pub fn flag(&mut self, k: usize) -> &mut u8 {
         match k.checked_sub(ring::MAX_NODES) {
@@ -97,6 +101,10 @@ pub struct LentTree {
 impl LentTree {
     /// How many bytes stand for truths.
     pub const FLAGS: usize = tree::MAX_NODES + 1;
+
+    pub fn flags(&self) -> Vec<u8> {
+        [&self.active[..], &[self.closed]].concat()
+    }
 
     /// The k-th of them: the nodes', the run's.
     pub fn flag(&mut self, k: usize) -> &mut u8 {

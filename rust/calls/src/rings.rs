@@ -276,11 +276,13 @@ fn balanced(ring: &Ring, random: &mut Rng) -> Ring {
     wild
 }
 
-/// Soundness, a step and a short drive of what is lent.
-pub fn same_calls(seed: u64, ring: &LentRing, request: Request, random: &mut Rng) {
-    same_soundness(seed, ring);
-    same_step(seed, ring, request);
-    same_drive(seed, ring, random.below(12), random);
+/// Soundness, a step and a short drive of what is lent; tells their answers.
+pub fn same_calls(seed: u64, ring: &LentRing, request: Request, random: &mut Rng) -> [u8; 3] {
+    [
+        same_soundness(seed, ring),
+        same_step(seed, ring, request),
+        same_drive(seed, ring, random.below(12), random),
+    ]
 }
 
 fn same_drive(seed: u64, ring: &LentRing, limit: usize, random: &mut Rng) -> u8 {

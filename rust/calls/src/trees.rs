@@ -191,8 +191,7 @@ fn balanced(tree: &Tree, random: &mut Rng) -> Tree {
     wild
 }
 
-/// Soundness and a step of what is lent.
-pub fn same_calls(seed: u64, tree: &LentTree, request: Request) {
-    same_soundness(seed, tree);
-    same_step(seed, tree, request);
+/// Soundness and a step of what is lent; tells their answers.
+pub fn same_calls(seed: u64, tree: &LentTree, request: Request) -> [u8; 2] {
+    [same_soundness(seed, tree), same_step(seed, tree, request)]
 }

@@ -152,7 +152,7 @@ impl Cases for RingCases {
 #[derive(Default)]
 pub struct TreeCases {
     announce: Decided<2>,
-    leave: Decided<3>,
+    leave: Decided<4>,
     take: Decided<2>,
 }
 
@@ -175,9 +175,10 @@ impl Cases for TreeCases {
             ANNOUNCE if !accepted => self
                 .announce
                 .count([tree.active[root], tree.unacked[root] > 0]),
-            LEAVE if !accepted && i < tree.n && tree.is_engaged(i) => {
+            LEAVE if !accepted && i < tree.n => {
+                let engaged = tree.is_engaged(i);
                 self.leave
-                    .count([i == root, tree.active[i], tree.unacked[i] > 0])
+                    .count([i == root, !engaged, tree.active[i], tree.unacked[i] > 0])
             }
             TAKE if accepted => self.take.count([!tree.is_engaged(i), tree.is_engaged(i)]),
             _ => {}
@@ -192,6 +193,7 @@ impl Cases for TreeCases {
         self.announce.report(of, names, least.seldom, report);
         let names = [
             "leave refused only since the node is the root",
+            "leave refused only since the node is not engaged",
             "leave refused only since the node is active",
             "leave refused only since the node is unacknowledged",
         ];

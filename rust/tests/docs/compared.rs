@@ -89,7 +89,10 @@ fn of_steps() -> Vec<String> {
             &[met.kind],
         ),
         filled("announcement refusing alone {} times", &[met.once]),
-        filled("of a leaving deciding alone {} times", &[met.seldom]),
+        filled(
+            "each of the four of a leaving deciding alone {} times",
+            &[met.seldom],
+        ),
         filled("; {} receipts behind the token |", &[met.often]),
     ]
 }
@@ -128,7 +131,11 @@ fn of_calls() -> Vec<String> {
         filled("drives and of soundness {} times", &[calls::ANSWER]),
         filled(&on_large, &[calls::ANSWER_ON_LARGE]),
         filled("each field broken alone {} times", &[calls::BROKEN]),
-        filled("{} states with a byte for a truth", &[calls::TRUTHS]),
+        filled(
+            "a byte above 1 for a truth refused by each call {} times at each place",
+            &[calls::NO_TRUTH],
+        ),
+        filled("0 and 1 there told as sound {} times", &[calls::TRUTH]),
     ]
 }
 
