@@ -47,9 +47,9 @@ step-told r x =
 
 -- ---- token moves as requests
 
-move-kind : (b : Bool) → kindOf (cond b 4 5) ≡ cond b Probe Pass
-move-kind true = refl
-move-kind false = refl
+number-kind : (b : Bool) → kindOf (cond b 4 5) ≡ cond b Probe Pass
+number-kind true = refl
+number-kind false = refl
 
 token-kind : (b : Bool) → TokenMove (kindOf (cond b 4 5))
 token-kind true = probing
@@ -64,13 +64,13 @@ module _ (r : State) (o : Open r) (e : mayMove r ≡ true) where
   pub move-accepted : Accepts ring r (moveRequest r)
   move-accepted =
       accepted r (kindOf (cond (eqb (r .pos) 0) 4 5)) (r .pos) 0 o
-      (subst (λ k. Rule r (r .pos) 0 k) (sym (move-kind (eqb (r .pos) 0))) (may-rule r (o .sound) e))
+      (subst (λ k. Rule r (r .pos) 0 k) (sym (number-kind (eqb (r .pos) 0))) (may-rule r (o .sound) e))
 
   pub move-next : next ring r (moveRequest r) ≡ moveOf r
   unfolding moveOf
   move-next =
       ap (λ (v : Verdict). settle v (effect r (kindOf (cond (eqb (r .pos) 0) 4 5)) (r .pos) 0) r) move-accepted
-      ∙ ap (λ (k : Kind). effect r k (r .pos) 0) (move-kind (eqb (r .pos) 0))
+      ∙ ap (λ (k : Kind). effect r k (r .pos) 0) (number-kind (eqb (r .pos) 0))
 
 -- so many moves, each allowed before it is made
 record MovesRun (d : ℕ) (r : State) : Type 0 where

@@ -1,5 +1,5 @@
 -- Demand 3 of calls. Assumes nothing.
-use Prim.Native.Nat.{_*_, _-_, _≤_, ℕ}
+use Prim.Native.Nat.{ℕ}
 use mathlib.Core.Bool.{Bool, _||_, false, true}
 use mathlib.Core.List.{List}
 use mathlib.Core.Logic.{_↔_}
@@ -22,7 +22,6 @@ use Rattle.ring_rules.proofs.Driver as ringDriver
 use Rattle.ring_rules.proofs.Theorems as ringRules
 use Rattle.ring_rules.specs.Answers as ringAnswers
 use Rattle.ring_rules.specs.Driver as ringDrive
-use Rattle.ring_rules.specs.Rules as ringSteps
 use Rattle.ring_rules.specs.Soundness as ringSound
 use Rattle.ring_rules.specs.Start as ringStart
 use Rattle.ring_rules.specs.State as ringState
@@ -69,26 +68,18 @@ module _ (r : ringState.State) (o : ringSound.Open r) (cs : List RingCall) where
   closed-here : ringCounts.Announced r xs → here .closed ≡ true
   closed-here a = ringRun.closed-here r o xs ∙ a
 
-  concludes :
-      ringCounts.QuietBy r xs → ringCounts.Unannounced r xs → (m : ℕ) → 3 * r .n - 2 ≤ m → m ≤ ringDrive.moveLimit
-      → numberTold (fieldsAfter (lentOf r) cs) (drive m) ≡ 100
-  concludes q e m lo hi =
-      let o-here : ringSound.Open here = record { sound = sound-here; running = ringRun.closed-here r o xs ∙ e } in
-      ap (λ (l : Lent). numberTold l (drive m)) fields
-      ∙ rings.drive-told here m
-      ∙ ringRules.driver-counts .quiet here m o-here hi (ringRun.by-quiet r o xs q)
-      (omega (arith, lo, ringTrace.run-n (run-of ringCounts.ring r xs))) .1
+  -- what a drive tells here
+  drive-told : (m : ℕ) → numberTold (fieldsAfter (lentOf r) cs) (drive m) ≡ ringDrive.reasonNumber (ringDrive.driveOf here m .reason)
+  drive-told m = ap (λ (l : Lent). numberTold l (drive m)) fields ∙ rings.drive-told here m
 
-  announces :
-      (m : ℕ) → numberTold (fieldsAfter (lentOf r) cs) (drive m) ≡ 100 → (x : Request) → ringCounts.kind x ≡ ringSteps.Announce
-      → numberTold (fieldsLeft (fieldsAfter (lentOf r) cs) (drive m)) (step x) ≡ 0
-  announces m e x k =
-      let n = sym (ap (λ (l : Lent). numberTold l (drive m)) fields ∙ rings.drive-told here m) ∙ e in
-      let after : ringState.State = ringDrive.driveOf here m .state in
+  -- what a step tells after it
+  told-after :
+      (m : ℕ) (x : Request)
+      → numberTold (fieldsLeft (fieldsAfter (lentOf r) cs) (drive m)) (step x) ≡ codeOf (ringCounts.ring .verdict (ringDrive.driveOf here m .state) x)
+  told-after m x =
       ap (λ (l : Lent). numberTold (fieldsLeft l (drive m)) (step x)) fields
       ∙ ap (λ (l : Lent). numberTold l (step x)) (rings.drive-left here m)
-      ∙ rings.step-told after x
-      ∙ ap codeOf (rings.announce-next here m sound-here n x k)
+      ∙ rings.step-told (ringDrive.driveOf here m .state) x
 
   last-told : here .closed ≡ true → (c : RingCall) → numberTold (lentOf here) c ≡ 4
   last-told e (step x) =
@@ -110,8 +101,14 @@ module _ (r : ringState.State) (o : ringSound.Open r) (cs : List RingCall) where
         point = ringRun.whole-runs .point r o xs;
         quiet = λ x k z. ringRun.whole-runs .point r o xs .quiet x k (zero-accepted _ _ (told x) .0 z);
         last = λ a c. ap (λ (l : Lent). numberTold l c) fields ∙ last-told (closed-here a) c;
-        concludes = concludes;
-        announces = announces;
+        concludes = λ q e m lo hi.
+            drive-told m
+            ∙ ringRules.driver-counts .quiet here m
+            (record { sound = sound-here; running = ringRun.closed-here r o xs ∙ e })
+            hi
+            (ringRun.by-quiet r o xs q)
+            (omega (arith, lo, ringTrace.run-n (run-of ringCounts.ring r xs))) .1;
+        announces = λ m e x k. told-after m x ∙ ap codeOf (rings.announce-next here m sound-here (sym (drive-told m) ∙ e) x k);
       }
 
 -- ---- the tree

@@ -89,3 +89,9 @@ fn far(state: &dyn Model, random: &mut Rng) -> Request {
     let further = |i: usize| if i < n { i } else { far };
     Request::new(request.kind, further(request.i), further(request.j))
 }
+
+/// Numbers of nodes outside 1 to `most`, some of which would be within if they were cut short.
+pub fn no_counts(most: usize) -> [usize; 6] {
+    let cut = [1 << 8 | 1, 1 << 16 | 1, 1 << 32 | 1];
+    [0, most + 1, cut[0], cut[1], cut[2], usize::MAX]
+}

@@ -2,7 +2,7 @@
 
 use crate::answers::{Answers, BySize};
 use crate::lent::LentRing;
-use crate::requests::{request, Course};
+use crate::requests::{no_counts, request, Course};
 use crate::same::{other, same_soundness, same_start, same_step};
 use crate::{fail, proved};
 use second::bounds::answers::{IS_SOUND, OF_SOUND, RING_DRIVE, RING_START};
@@ -185,22 +185,12 @@ fn near_send_limit(random: &mut Rng) -> Ring {
     ring
 }
 
-/// Numbers of nodes outside 1 to 96, some of which would be within if they were cut short.
-const NO_COUNTS: [usize; 6] = [
-    0,
-    MAX_NODES + 1,
-    1 << 8 | 1,
-    1 << 16 | 1,
-    1 << 32 | 1,
-    usize::MAX,
-];
-
 /// Numbers of nodes and flags in range and about it.
 fn flags(random: &mut Rng) -> (usize, Vec<u8>) {
     let nodes = match random.below(3) {
         0 => 1 + random.below(MAX_NODES),
         1 => random.pick(&[1, 2, MAX_NODES - 1, MAX_NODES]),
-        _ => random.pick(&NO_COUNTS),
+        _ => random.pick(&no_counts(MAX_NODES)),
     };
     let fitting = nodes.min(MAX_NODES + 1);
     let length = match random.below(6) {

@@ -3,7 +3,7 @@
 use crate::answers::{Answers, BySize};
 use crate::lent::LentTree;
 use crate::proved;
-use crate::requests::{request, Course};
+use crate::requests::{no_counts, request, Course};
 use crate::same::{other, same_soundness, same_start, same_step};
 use second::bounds::answers::{IS_SOUND, OF_SOUND, TREE_START};
 use second::bounds::calls::{ANNOUNCED, BROKEN, ON_TREES, STARTS, STEPS};
@@ -17,16 +17,6 @@ use second::tree::{Tree, MAX_NODES, NONE};
 /// The fields that are broken, one alone or two.
 const FIELDS: [&str; 9] = [
     "n", "root", "active", "engager", "unacked", "transit", "acks", "sends", "closed",
-];
-
-/// Numbers of nodes outside 1 to 16, some of which would be within if they were cut short.
-const NO_COUNTS: [usize; 6] = [
-    0,
-    MAX_NODES + 1,
-    1 << 8 | 1,
-    1 << 16 | 1,
-    1 << 32 | 1,
-    usize::MAX,
 ];
 
 pub fn compare(seed: u64, report: &mut Report) {
@@ -73,7 +63,7 @@ impl Trees {
 
     fn start(&mut self, random: &mut Rng) {
         let nodes = match random.below(3) {
-            0 => random.pick(&NO_COUNTS),
+            0 => random.pick(&no_counts(MAX_NODES)),
             _ => 1 + random.below(MAX_NODES),
         };
         let root = match random.below(3) {
