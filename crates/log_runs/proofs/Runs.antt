@@ -40,11 +40,11 @@ texts-same : {f : ℕ → List ℕ} (g : ℕ → List ℕ) → ((i : ℕ) → f 
 texts-same g e n = ap (λ (h : ℕ → List ℕ). textsTo h n) (fun-ext e)
 
 -- the state after what a line asks for
-abbrev pub after : {S : Type 0} → Machine S → S → Ask → S
+abbrev pub after : {S : Type 0} → Machine S Request → S → Ask → S
 after m s (request x) = next m s x
 after m s no-step = s
 
-module _ {S : Type 0} (m : Machine S) where
+module _ {S : Type 0} (m : Machine S Request) where
   verdict-next : (s : S) (a : Ask) (qs : List Ask) (i : ℕ) → verdictAt m (after m s a) qs i ≡ verdictAt m s (a ∷ qs) (suc i)
   unfolding runOf
   verdict-next s (request x) qs i = refl
@@ -112,7 +112,7 @@ said-later qs i j h =
 
 -- ---- how many are accepted
 
-module _ {S : Type 0} (m : Machine S) (s : S) (qs : List Ask) where
+module _ {S : Type 0} (m : Machine S Request) (s : S) (qs : List Ask) where
   accepted-later :
       (i j : ℕ) → i ≤ j
       → acceptedOf m s (said qs j) ≡ acceptedOf m s (said qs i) ++ acceptedOf m (runOf m s (said qs i)) (between qs i j)
@@ -244,12 +244,12 @@ module _ {F : Type 0} (d : Steps F) where
   announce-only (cut u) e y = absurd (let z : _≡_ {A = ℕ} 0 1 = cc in let w : ⊥ = omega arith in w)
 
   -- what the countdown of a whole run says after ys, where it was in t and K steps were left
-  pub record Left {S : Type 0} (m : Machine S) (Step : Request → Type 0) (t : S) (K : ℕ) (ys : List Request) : Type 0 where
+  pub record Left {S : Type 0} (m : Machine S Request) (Step : Request → Type 0) (t : S) (K : ℕ) (ys : List Request) : Type 0 where
     pub one-of : (x : Request) → Accepts m (runOf m t ys) x → Step x ⊎ (d .announces x ≡ true)
     pub at-most : length (acceptedOf m t ys) ≤ K
     pub exactly : Accepts m (runOf m t ys) (d .asked (d .last)) ↔ (length (acceptedOf m t ys) ≡ K)
 
-  module _ {S : Type 0} (m : Machine S) (s : S) {ls : List (List ℕ)} {qs : List Ask} (c : Each LineAsks ls qs) where
+  module _ {S : Type 0} (m : Machine S Request) (s : S) {ls : List (List ℕ)} {qs : List Ask} (c : Each LineAsks ls qs) where
     pub announce-ok : (i : ℕ) → AnnouncedAt m s qs ls i → Accepts m (runOf m s (said qs i)) (d .asked (d .last))
     announce-ok i a = subst (λ (b : Ask). verdictOn m (runOf m s (said qs i)) b ≡ Accepted) (announce-asks c i (a .0)) (a .1)
 

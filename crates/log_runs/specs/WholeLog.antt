@@ -43,7 +43,7 @@ abbrev pub said : List Ask → ℕ → List Request
 said qs i = requestsIn (take i qs)
 
 -- the verdict on what a line asks for, where the run has come to s
-abbrev pub verdictOn : {S : Type 0} → Machine S → S → Ask → Verdict
+abbrev pub verdictOn : {S : Type 0} → Machine S Request → S → Ask → Verdict
 verdictOn m s (request x) = m .verdict s x
 verdictOn m s no-step = Refused NotAForm
 
@@ -53,7 +53,7 @@ textsTo f zero = []
 textsTo f (suc n) = f 0 ++ textsTo (λ i. f (suc i)) n
 
 -- A run of the machine m from s, whose lines, 2 and on, are `lines` and ask for `qs`.
-module _ {S : Type 0} (m : Machine S) (s : S) (qs : List Ask) where
+module _ {S : Type 0} (m : Machine S Request) (s : S) (qs : List Ask) where
   -- the verdict on line 2 + i: the machine's, on the state that the requests of the lines before it lead to
   abbrev pub verdictAt : ℕ → Verdict
   verdictAt i = verdictOn m (runOf m s (said qs i)) (getD qs i no-step)

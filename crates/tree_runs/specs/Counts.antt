@@ -12,7 +12,7 @@ use Rattle.tree_rules.specs.State.{State, activeAt, engaged, transitAt}
 use Rattle.tree_rules.specs.Termination.{Closing, acksTotal}
 
 -- the tree as a machine that takes requests
-abbrev pub tree : Machine State
+abbrev pub tree : Machine State Request
 tree =
     record {
       verdict = λ t x. verdictOf t (kindOf (x .kind)) (x .i) (x .j);
