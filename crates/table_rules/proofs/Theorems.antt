@@ -1,0 +1,61 @@
+-- The statements of specs/Theorems.antt, proved. Assumes nothing.
+use Prim.Native.Nat.{_<_}
+use mathlib.Core.List.{List, [], _∷_}
+use mathlib.Core.Path.{_∙_, _≡_, ap, refl, subst, sym}
+use native.Mathlib.Omega.{arith}
+use Rattle.refusal.proofs.Table.{accepts, first-row, none-holds}
+use Rattle.refusal.specs.Table.{settle}
+use Rattle.refusal.specs.declared.Verdict.{Verdict}
+use Rattle.runs.specs.Runs.{runOf}
+use Rattle.table_rules.proofs.Alone.{alone, not-disturbed}
+use Rattle.table_rules.proofs.Keeps.{after-sound, next-fixed, next-sound}
+use Rattle.table_rules.proofs.Limit.{limit-nine, limit-rows}
+use Rattle.table_rules.proofs.Soundness.{table-true, true-table}
+use Rattle.table_rules.specs.Answers.{Ask, after, answerOn, nextTable, rowsOf, verdictOn}
+use Rattle.table_rules.specs.Runs.{table}
+use Rattle.table_rules.specs.Soundness.{SoundTable}
+use Rattle.table_rules.specs.Table.{Table, fixed}
+use Rattle.table_rules.specs.Theorems.{Isolation, LimitTogether, NonInterference, TableAnswered, TableKept, TableTested}
+
+pub table-tested : TableTested
+table-tested = record { holds = table-true; tested = true-table }
+
+pub table-answered : TableAnswered
+unfolding verdictOn answerOn
+table-answered =
+    record {
+      accepted = λ t a. (none-holds (rowsOf t a), accepts (rowsOf t a));
+      next = λ t a e. ap (λ (v : Verdict). settle v (after t a) t) e;
+      refused = λ t a. first-row (rowsOf t a);
+      same = λ t a x e. ap (λ (v : Verdict). settle v (after t a) t) e;
+    }
+
+pub run-sound : (t : Table) → SoundTable t → (ls : List Ask) → SoundTable (runOf table t ls)
+unfolding runOf
+run-sound t ok [] = ok
+run-sound t ok (a ∷ ls) = run-sound (nextTable t a) (next-sound t a ok) ls
+
+pub run-fixed : (t : Table) → 0 < fixed t → (ls : List Ask) → fixed (runOf table t ls) ≡ fixed t
+unfolding runOf
+run-fixed t h [] = refl
+run-fixed t h (a ∷ ls) = let e = next-fixed t a h in run-fixed (nextTable t a) (omega arith) ls ∙ e
+
+pub table-kept : TableKept
+unfolding answerOn
+table-kept =
+    record {
+      accepted = λ t a e. subst SoundTable (sym (ap (λ (v : Verdict). settle v (after t a) t) e)) (after-sound t a e);
+      any = next-sound;
+      run = run-sound;
+      fixed-run = λ t ok h ls. run-fixed t h ls;
+    }
+
+pub limit-together : LimitTogether
+limit-together = record { rows = limit-rows; nine = limit-nine }
+
+pub isolation : Isolation
+isolation =
+    record { alone = λ t ok h u ls. let w = alone u (fixed t) ls t ok refl h in record { slot = w .0; answers = w .1 } }
+
+pub non-interference : NonInterference
+non-interference = record { same = not-disturbed }
