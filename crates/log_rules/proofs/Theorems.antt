@@ -12,9 +12,11 @@ use Rattle.first_line.proofs.Opens.{first-exact, first-other}
 use Rattle.first_line.specs.Start.{Start, seen, startForm}
 use Rattle.forms.proofs.Steps.{ring-exact, ring-not, tree-exact, tree-not}
 use Rattle.forms.specs.Form.{Form, Says, formText, line, ringForm, treeForm}
+use Rattle.forms.specs.Read.{Read}
+use Rattle.update_forms.specs.Wrapped.{Wrapped}
 use Rattle.log_rules.proofs.Cuts.{long-told, split-take, unended-told}
 use Rattle.log_rules.proofs.Ends.{ended-append, ended-itself, ended-long, form-ended, unended-append}
-use Rattle.log_rules.specs.Answers.{firstTold, fresh, lineTold}
+use Rattle.log_rules.specs.Answers.{firstTold, fresh, freshTold, lineTold}
 use Rattle.log_rules.specs.Lines.{lineLimit, split}
 use Rattle.log_rules.specs.Output.{linesTold, restOf}
 use Rattle.log_rules.specs.Pieces.{OneLine, PartLine, empty, newline}
@@ -29,15 +31,15 @@ says-first f l s = (ap line (s .0) ∙ ended-itself (form-ended f), s .1)
 pub says-itself : (f : Form) (l : List ℕ) → OneLine l → Says (line l) f → Says l f
 says-itself f l o s = (sym (ended-itself o) ∙ s .0, s .1)
 
-seen-told : (f : Start) (e : ℕ) → firstTold (seen f e .kind) (seen f e) ≡ firstTold (seen f 0 .kind) (seen f 0)
-seen-told (Start.bare n) e = refl
-seen-told (Start.lists n active black) e = refl
-seen-told (Start.tree n root) e = refl
+seen-told : (f : Start) (e : ℕ) (w : Read Wrapped) → freshTold (seen f e .kind) (seen f e) w ≡ firstTold (seen f 0 .kind) (seen f 0)
+seen-told (Start.bare n) e w = refl
+seen-told (Start.lists n active black) e w = refl
+seen-told (Start.tree n root) e w = refl
 
 pub lines-say : LinesSay
 unfolding lineTold
 lines-say = record {
-  first = λ k l f s. rw (first-exact l 0 f (0 + length (formText (startForm f))) .1 (says-first (startForm f) l s, refl)) (seen-told f _);
+  first = λ k l f s. rw (first-exact l 0 f (0 + length (formText (startForm f))) .1 (says-first (startForm f) l s, refl)) (seen-told f _ _);
   first-other = λ k l o h. rw (first-other l 0 .1 (λ f s. h f (says-itself (startForm f) l o s)));
   ring-step = λ r m k l f s. rw (ring-exact l 0 f (0 + length (formText (ringForm f))) .1 (says-first (ringForm f) l s, refl));
   ring-other = λ r m k l o h. rw (ring-not l 0 .1 (λ f s. h f (says-itself (ringForm f) l o s)));

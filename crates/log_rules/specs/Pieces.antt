@@ -9,7 +9,7 @@ use Rattle.decimal.specs.Text.{put}
 use Rattle.forms.specs.Form.{lineBytes}
 use Rattle.refusal.specs.declared.Refusal.the-variants.{NotAForm}
 use Rattle.refusal.specs.declared.Verdict.the-variants.{Refused}
-use Rattle.log_rules.specs.Answers.{Stage, Told, answerBytes, answerText, fresh, onRing, onTree, openedBy, over}
+use Rattle.log_rules.specs.Answers.{Stage, Told, answerBytes, answerText, fresh, onRing, onTable, onTree, openedBy, over}
 use Rattle.log_rules.specs.Lines.{lineLimit}
 use Rattle.log_rules.specs.Output.{restOf}
 
@@ -41,6 +41,7 @@ abbrev pub notTold : Stage → ℕ → Told
 notTold fresh k = openedBy (Refused NotAForm) fresh
 notTold (onRing r m) k = record { stage = onRing r m; text = answerText k (Refused NotAForm) }
 notTold (onTree t) k = record { stage = onTree t; text = answerText k (Refused NotAForm) }
+notTold (onTable t ms) k = record { stage = onTable t ms; text = answerText k (Refused NotAForm) }
 notTold over k = record { stage = over; text = [] }
 
 -- Some whole lines of a piece are answered: those from index `next` to `next′`, k being answered before and k′ after. `written` is

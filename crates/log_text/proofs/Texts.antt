@@ -1,5 +1,5 @@
 -- Texts made of items. Assumes nothing.
-use Prim.Native.Nat.{_+_, _<_, _≤_, ℕ}
+use Prim.Native.Nat.{_+_, _≤_, ℕ}
 use lib.ListN.{length, length-append}
 use mathlib.Core.List.{List, _++_, append-assoc}
 use mathlib.Core.Path.{_∙_, _≡_, ap}
@@ -9,9 +9,8 @@ use Rattle.decimal.proofs.Put.{put-then}
 use Rattle.decimal.specs.Text.{decimal, put}
 use Rattle.log_rules.specs.Answers.{answerBytes, answerText}
 use Rattle.log_rules.specs.Lines.{lineLimit}
+use Rattle.refusal.proofs.Table.{number-range}
 use Rattle.refusal.specs.Table.{numberOf}
-use Rattle.refusal.specs.declared.Refusal.{Refusal}
-use Rattle.refusal.specs.declared.Refusal.the-variants.{Closed, MoveLimit, NodeCount, NotAForm, RuleFails, SelfMessage, SendLimit, ShortBuffer, StartFlags, UnknownKind, UnknownNode, Unsound}
 use Rattle.refusal.specs.declared.Verdict.{Verdict}
 use Rattle.refusal.specs.declared.Verdict.the-variants.{Accepted, Refused}
 use Rattle.log_text.specs.Wrote.{Wrote, item}
@@ -34,21 +33,7 @@ pub item-wrote : (w : List ℕ) (n : ℕ) (t b : List ℕ) (at : ℕ) {c d : Lis
 item-wrote w n t b at f g = (omega (arith, f .0, g .0, item-length w n t), g .1 ∙ item-then w n t b at f)
 
 -- "each answer is at most 16 bytes", for the lines of a log
-number-two : (e : Refusal) → numberOf e < 100
-number-two NodeCount = omega arith
-number-two StartFlags = omega arith
-number-two Unsound = omega arith
-number-two Closed = omega arith
-number-two UnknownKind = omega arith
-number-two UnknownNode = omega arith
-number-two SelfMessage = omega arith
-number-two RuleFails = omega arith
-number-two SendLimit = omega arith
-number-two NotAForm = omega arith
-number-two MoveLimit = omega arith
-number-two ShortBuffer = omega arith
-
 pub answer-short : (k : ℕ) (v : Verdict) → k ≤ lineLimit → length (answerText k v) ≤ answerBytes
 answer-short k Accepted h = simp length-append (omega (arith, decimal-width 6 k (omega arith)))
 answer-short k (Refused e) h =
-    simp length-append (omega (arith, decimal-width 6 k (omega arith), decimal-width 1 (numberOf e) (omega (arith, number-two e))))
+    simp length-append (omega (arith, decimal-width 6 k (omega arith), decimal-width 1 (numberOf e) (omega (arith, number-range e .1))))

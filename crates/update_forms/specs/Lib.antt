@@ -1,0 +1,2 @@
+pub mod Wrapped
+pub mod Read
