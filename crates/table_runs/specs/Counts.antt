@@ -1,0 +1,111 @@
+-- Q-1: what is counted of update u at a point of a table's run, from the first table and the requests accepted so far alone; and which of the
+-- requests are u's since its latest start.
+use Prim.Native.Nat.{_+_, _-_, _<_, ℕ}
+use lib.Dec.{eqb}
+use mathlib.Core.Bool.{Bool, _&&_, _||_, cond, false, not}
+use mathlib.Core.List.{List, [], _++_, _∷_}
+use mathlib.Core.Path.{_≡_}
+use Rattle.laws.specs.Sums.{sumTo}
+use Rattle.refusal.specs.Table.{isAccepted}
+use Rattle.refusal.specs.declared.Verdict.{Verdict}
+use Rattle.refusal.specs.declared.Verdict.the-variants.{Accepted}
+use Rattle.ring_rules.specs.Start.{firstState}
+use Rattle.ring_rules.specs.State.{State, activeAt, pendingAt}
+use Rattle.ring_runs.specs.Counts.{activeAfter, ring, sendsIn, sendsTo, takesBy}
+use Rattle.runs.specs.Runs.{Request, acceptedOf, next}
+use Rattle.table_rules.specs.Answers.{Ask, Start, Step, nextTable, verdictOn}
+use Rattle.table_rules.specs.Runs.{isNine, table}
+use Rattle.table_rules.specs.Table.{Slot, Started, Table, sendsOf, slotAt}
+
+-- ---- what a list of accepted requests says of update u
+
+abbrev pub startsIn : ℕ → List Ask → Bool
+startsIn u [] = false
+startsIn u (Start v n flags ∷ acc) = eqb v u || startsIn u acc
+startsIn u (Step v x ∷ acc) = startsIn u acc
+
+abbrev pub stepsIn : ℕ → List Ask → List Request
+stepsIn u [] = []
+stepsIn u (Start v n flags ∷ acc) = stepsIn u acc
+stepsIn u (Step v x ∷ acc) = cond (eqb v u) (x ∷ stepsIn u acc) (stepsIn u acc)
+
+-- ---- the history of update u: what its latest start put there, and the steps accepted since
+
+pub record History : Type 0 where
+  pub first : Slot
+  pub taken : List Request
+
+abbrev pub begun : Slot → History
+begun s = record { first = s; taken = [] }
+
+-- after one accepted request; those of other updates leave it
+abbrev pub historyNext : ℕ → History → Ask → History
+historyNext u h (Start v n flags) = cond (eqb v u) (begun (Started (firstState n flags))) h
+historyNext u h (Step v x) = cond (eqb v u) (record { first = h .first; taken = h .taken ++ (x ∷ []) }) h
+
+abbrev pub historyIn : ℕ → History → List Ask → History
+historyIn u h [] = h
+historyIn u h (a ∷ acc) = historyIn u (historyNext u h a) acc
+
+-- from the first table, where it begins with what stands at u
+abbrev pub historyOf : ℕ → Table → List Ask → History
+historyOf u t ls = historyIn u (begun (slotAt t u)) (acceptedOf table t ls)
+
+-- u is started in the run, from t by ls
+abbrev pub startedOf : ℕ → Table → List Ask → Bool
+startedOf u t ls = startsIn u (acceptedOf table t ls)
+
+-- the steps of u that are accepted in it
+abbrev pub takenOf : ℕ → Table → List Ask → List Request
+takenOf u t ls = stepsIn u (acceptedOf table t ls)
+
+-- ---- the counts of a ring, from its first state r and the accepted steps since
+
+abbrev pub activeIn : State → List Request → ℕ → Bool
+activeIn r acc b = activeAfter (activeAt r b) acc b
+
+abbrev pub transitIn : State → List Request → ℕ → ℕ
+transitIn r acc b = pendingAt r b + sendsTo acc b - takesBy acc b
+
+-- every node is passive and no message is in transit
+pub record QuietIn (r : State) (acc : List Request) : Type 0 where
+  pub passive : (b : ℕ) → b < r .n → activeIn r acc b ≡ false
+  pub empty : (b : ℕ) → b < r .n → transitIn r acc b ≡ 0
+
+-- the sends of an update since its latest start, and those of the eight
+abbrev pub sendsSince : History → ℕ
+sendsSince h = sendsOf (h .first) + sendsIn (h .taken)
+
+abbrev pub sendsBy : Table → List Ask → ℕ
+sendsBy t ls = sumTo 8 (λ u. sendsSince (historyOf u t ls))
+
+-- ---- the steps of u since its latest start, less those refused with 9, and the table's answers to these
+
+pub record Heard : Type 0 where
+  pub steps : List Request
+  pub answers : List Verdict
+
+abbrev pub nothing : Heard
+nothing = record { steps = []; answers = [] }
+
+-- after one request, answered with v
+abbrev pub heardNext : ℕ → Heard → Ask → Verdict → Heard
+heardNext u h (Start w n flags) v = cond (eqb w u && isAccepted v) nothing h
+heardNext u h (Step w x) v =
+    cond (eqb w u && not (isNine v)) (record { steps = h .steps ++ (x ∷ []); answers = h .answers ++ (v ∷ []) }) h
+
+unfoldable pub heardFrom : ℕ → Heard → Table → List Ask → Heard
+heardFrom u h t [] = h
+heardFrom u h t (a ∷ ls) = heardFrom u (heardNext u h a (verdictOn t a)) (nextTable t a) ls
+
+abbrev pub heardOf : ℕ → Table → List Ask → Heard
+heardOf u t ls = heardFrom u nothing t ls
+
+-- the ring's answers to a list of requests
+unfoldable pub ringAnswers : State → List Request → List Verdict
+ringAnswers r [] = []
+ringAnswers r (x ∷ xs) = ring .verdict r x ∷ ringAnswers (next ring r x) xs
+
+-- the table accepts the step x of u
+abbrev pub AcceptsOn : Table → ℕ → Request → Type 0
+AcceptsOn t u x = verdictOn t (Step u x) ≡ Accepted
