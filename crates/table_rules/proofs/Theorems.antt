@@ -6,16 +6,18 @@ use native.Mathlib.Omega.{arith}
 use Rattle.refusal.proofs.Table.{accepts, first-row, none-holds}
 use Rattle.refusal.specs.Table.{settle}
 use Rattle.refusal.specs.declared.Verdict.{Verdict}
+use Rattle.refusal.specs.declared.Verdict.the-variants.{Accepted}
 use Rattle.runs.specs.Runs.{runOf}
 use Rattle.table_rules.proofs.Alone.{alone, not-disturbed}
-use Rattle.table_rules.proofs.Keeps.{after-sound, next-fixed, next-sound}
-use Rattle.table_rules.proofs.Limit.{limit-nine, limit-rows}
-use Rattle.table_rules.proofs.Soundness.{table-true, true-table}
-use Rattle.table_rules.specs.Answers.{Ask, after, answerOn, nextTable, rowsOf, verdictOn}
+use Rattle.table_rules.proofs.Keeps.{after-sends, after-sound, next-fixed, next-sound}
+use Rattle.table_rules.proofs.Limit.{limit-decides, limit-only, limit-rows}
+use Rattle.table_rules.proofs.Numbers.{none-fixed, past, start-accepted, start-fixed, unknown-start, unknown-step, unsound-three}
+use Rattle.table_rules.proofs.Soundness.{fixed-n, table-true, true-table}
+use Rattle.table_rules.specs.Answers.{Ask, Start, Step, after, answerOn, nextTable, rowsOf, verdictOn}
 use Rattle.table_rules.specs.Runs.{table}
 use Rattle.table_rules.specs.Soundness.{SoundTable}
-use Rattle.table_rules.specs.Table.{Table, fixed}
-use Rattle.table_rules.specs.Theorems.{Isolation, LimitTogether, NonInterference, TableAnswered, TableKept, TableTested}
+use Rattle.table_rules.specs.Table.{Table, fixed, sends}
+use Rattle.table_rules.specs.Theorems.{Isolation, LimitTogether, NonInterference, SendsChange, TableAnswered, TableKept, TableNumbers, TableTested}
 
 pub table-tested : TableTested
 table-tested = record { holds = table-true; tested = true-table }
@@ -51,7 +53,32 @@ table-kept =
     }
 
 pub limit-together : LimitTogether
-limit-together = record { rows = limit-rows; nine = limit-nine }
+limit-together = record { rows = limit-rows; only = limit-only; decides = limit-decides }
+
+-- the table after an accepted request
+accepted-table : (t : Table) (a : Ask) → verdictOn t a ≡ Accepted → answerOn t a .table ≡ after t a
+accepted-table = table-answered .next
+
+pub table-numbers : TableNumbers
+table-numbers =
+    record {
+      unknown-start = unknown-start;
+      unknown-step = unknown-step;
+      past = past;
+      start = start-accepted;
+      unsound = unsound-three;
+      fixed-by-started = fixed-n;
+      fixed-by-start = λ t u n flags e. ap fixed (accepted-table t (Start u n flags) e) ∙ start-fixed t u n flags e;
+      none-fixed = none-fixed;
+    }
+
+pub sends-change : SendsChange
+sends-change =
+    record {
+      step = λ t u x e. omega (arith, ap sends (accepted-table t (Step u x) e), after-sends t (Step u x) e);
+      start = λ t u n flags e. omega (arith, ap sends (accepted-table t (Start u n flags) e), after-sends t (Start u n flags) e);
+      refused = λ t a x e. ap sends (table-answered .same t a x e);
+    }
 
 pub isolation : Isolation
 isolation =
