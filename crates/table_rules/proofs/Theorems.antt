@@ -56,7 +56,7 @@ pub limit-together : LimitTogether
 limit-together = record { rows = limit-rows; only = limit-only; decides = limit-decides }
 
 -- the table after an accepted request
-accepted-table : (t : Table) (a : Ask) → verdictOn t a ≡ Accepted → answerOn t a .table ≡ after t a
+pub accepted-table : (t : Table) (a : Ask) → verdictOn t a ≡ Accepted → answerOn t a .table ≡ after t a
 accepted-table = table-answered .next
 
 pub table-numbers : TableNumbers
