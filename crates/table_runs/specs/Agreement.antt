@@ -120,4 +120,5 @@ pub record RunsAgree : Type 0 where
   pub reachable-is-run :
       (t : Table) → SoundTable t → (u : ℕ) → u < 8 → {N : ℕ} (h : 0 < N) → N ≤ 96 → (fixed t ≡ 0) ⊎ (N ≡ fixed t) → (s : Vars N) (m : ℕ)
       → Reachable h s m → sends t + m ≤ sendLimit + sendsOf (slotAt t u) → RunTo t u s m
-  pub from-empty : (u : ℕ) → u < 8 → {N : ℕ} (h : 0 < N) → N ≤ 96 → (s : Vars N) (m : ℕ) → Reachable h s m → m ≤ sendLimit → RunTo emptyTable u s m
+  pub from-empty :
+      (u : ℕ) → u < 8 → {N : ℕ} (h : 0 < N) → N ≤ 96 → (s : Vars N) (m : ℕ) → Reachable h s m → m ≤ sendLimit → RunTo emptyTable u s m
