@@ -1,0 +1,94 @@
+// Change request Q-1 by calls: a table of two updates with 999,999 sends between them. One more is accepted, the next of either is 9, and a
+// fresh start gives sends back. Each line is the number of an answer, 0 where the request is accepted, or 1 where the table is sound and 0
+// where it is not.
+use libc::STDOUT_FILENO;
+use table::Table;
+use table::Tabled;
+ghost use Prim.Native.Nat.{_<_};
+
+fn line(n: u64) {
+    io::print_decimal(STDOUT_FILENO, n);
+    io::write_all(STDOUT_FILENO, b"\n");
+}
+
+fn told(s: Tabled) -> Table {
+    let verdict = s.verdict;
+    line(refusal::code(verdict) as u64);
+    let table = s.table;
+    table
+}
+
+fn sound(t: Table) {
+    if t.is_sound() {
+        line(1);
+    } else {
+        line(0);
+    }
+}
+
+// Update u with that many sends of node 0, all of them in transit to node 1.
+fn with_sends(t: Table, u: usize, sends: u32) -> Table
+    requires { ⌜ u < 8 ⌝ }
+{
+    let mut rings = t.rings;
+    let mut ring = rings[u];
+    ring.sent[0] = sends;
+    ring.pending[1] = sends;
+    rings[u] = ring;
+    Table { rings }
+}
+
+// Updates 0 and 1 of two nodes, both active.
+fn two_started() -> Table {
+    let first = told(Table::empty().start(0, 2, &[1, 1]));
+    told(first.start(1, 2, &[1, 1]))
+}
+
+// 1 for another number of nodes, 13 for an update above 7 or not started, and 13 before 1.
+fn unknown_updates(t: Table) {
+    let a = told(t.start(2, 3, &[1, 1, 1]));
+    let b = told(a.start(8, 2, &[1, 1]));
+    let c = told(b.start(8, 3, &[1, 1, 1]));
+    let d = told(c.step(2, 1, 0, 1));
+    let e = told(d.step(8, 1, 0, 1));
+    sound(e);
+}
+
+// The last send, 9 for the next of either update, which comes after 7; takes still pass.
+fn limit_together(t: Table) -> Table {
+    let a = told(t.step(1, 1, 0, 1));
+    let b = told(a.step(0, 1, 0, 1));
+    let c = told(b.step(1, 1, 0, 1));
+    let d = told(c.step(1, 1, 0, 0));
+    let e = told(d.step(0, 2, 1, 0));
+    told(e.step(0, 1, 1, 0))
+}
+
+// A fresh start of update 0 gives its sends back; a refused one does not.
+fn started_afresh(t: Table) {
+    let a = told(t.start(0, 3, &[1, 1, 1]));
+    let b = told(a.step(1, 1, 0, 1));
+    let c = told(b.start(0, 2, &[1, 1]));
+    let d = told(c.step(1, 1, 0, 1));
+    let e = told(d.step(0, 1, 0, 1));
+    sound(e);
+}
+
+// One send above the limit: 3, before 13 and 1.
+fn unsound(t: Table) {
+    sound(t);
+    let a = told(t.step(0, 2, 1, 0));
+    let b = told(a.start(8, 3, &[1, 1, 1]));
+    sound(b);
+}
+
+fn main() {
+    let first = two_started();
+    unknown_updates(first);
+    let busy = with_sends(with_sends(first, 0, 600000), 1, 399999);
+    let spent = limit_together(busy);
+    started_afresh(spent);
+    unsound(with_sends(busy, 1, 400001));
+    // nothing is asked of a place that is not started
+    sound(with_sends(first, 7, 4000000000));
+}
