@@ -1,11 +1,12 @@
 //! The update watch once more, in plain Rust: Safra's ring, the tree of
 //! Dijkstra and Scholten, the text of the tree and the log program.
-//! It is written from document 01 ("the paper") alone and serves as the
+//! It is written from document 01 ("the paper") and the change requests alone and serves as the
 //! independent check of the proved implementation.
 #![forbid(unsafe_code)]
 
 pub mod bounds;
 mod decimal;
+pub mod forms;
 pub mod generate;
 pub mod log;
 pub mod refusal;
@@ -14,6 +15,7 @@ pub mod request;
 pub mod ring;
 pub mod sizes;
 pub mod statements;
+pub mod table;
 pub mod tally;
 pub mod text;
 pub mod tree;

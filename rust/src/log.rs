@@ -1,18 +1,18 @@
 //! The log program: paper, "The log program".
 
+pub use crate::forms::LINE_BYTES;
+
 use crate::decimal;
+use crate::forms::{self, First, RingStart, Wrapped};
 use crate::refusal::Refusal;
-use crate::request::{Request, ACK, ANNOUNCE, IDLE, LEAVE, PASS, PROBE, SEND, TAKE};
-use crate::ring::{self, Ring};
+use crate::request::{Request, PASS, PROBE, SEND};
+use crate::ring::Ring;
+use crate::table::{Table, UPDATES};
 use crate::text;
 use crate::tree::Tree;
 
-/// Bytes of the longest line, its byte 10 among them.
-pub const LINE_BYTES: usize = 700;
 /// Lines that are read; what follows them is not.
 pub const LINE_LIMIT: u32 = 1_000_000;
-/// Digits of the longest number.
-const DIGIT_LIMIT: usize = 5;
 
 /// The whole program as a function: the bytes of a log to the bytes of the answers.
 pub fn run(input: &[u8]) -> Vec<u8> {
@@ -41,15 +41,28 @@ pub enum Run {
     Refused,
     Ring(RingRun),
     Tree(Tree),
+    /// The first line was an update's, so every line is one.
+    Updates(Box<UpdatesRun>),
 }
 
-/// A ring beside what the log counts of it.
-pub struct RingRun {
-    pub ring: Ring,
+/// What the log counts of a ring since its start.
+#[derive(Clone, Copy, Default)]
+struct Counts {
     /// Accepted sends.
     sends: u64,
     /// Accepted token moves.
     moves: u64,
+}
+
+pub struct RingRun {
+    pub ring: Ring,
+    counts: Counts,
+}
+
+#[derive(Default)]
+pub struct UpdatesRun {
+    pub table: Table,
+    counts: [Counts; UPDATES],
 }
 
 impl Default for Log {
@@ -108,8 +121,12 @@ impl Log {
         }
         match &self.run {
             Run::Unstarted | Run::Refused => {}
-            Run::Ring(run) => push_ring_end(out, run),
+            Run::Ring(run) => {
+                push_ring_end(out, &run.ring, run.counts);
+                out.push(b'\n');
+            }
             Run::Tree(tree) => push_tree_end(out, tree),
+            Run::Updates(run) => push_updates_end(out, run),
         }
     }
 
@@ -138,7 +155,7 @@ impl Log {
     /// Carries out one line: the start if it is the first, else a step.
     fn carry_out(&mut self, line: &[u8]) -> Result<(), Refusal> {
         match &mut self.run {
-            Run::Unstarted => match form_of(line).and_then(start) {
+            Run::Unstarted => match start(line) {
                 Ok(run) => {
                     self.run = run;
                     Ok(())
@@ -149,194 +166,70 @@ impl Log {
                 }
             },
             Run::Refused => Err(Refusal::NotAForm),
-            Run::Ring(run) => run.carry_out(form_of(line)?),
-            Run::Tree(tree) => tree.apply(tree_request(form_of(line)?)?),
+            Run::Ring(run) => run.carry_out(forms::of_ring(line)?),
+            Run::Tree(tree) => tree.apply(forms::of_tree(line)?),
+            Run::Updates(run) => run.carry_out(forms::wrapped(line)?),
         }
     }
 }
 
-impl Run {
-    /// The request of a line after the first, judged by its form alone.
-    pub fn request(&self, line: &[u8]) -> Result<Request, Refusal> {
-        let form = form_of(line)?;
-        match self {
-            Run::Unstarted | Run::Refused => Err(Refusal::NotAForm),
-            Run::Ring(_) => ring_request(form),
-            Run::Tree(_) => tree_request(form),
+/// The first line. Its form is judged whole, then an update's number, then N, then the nodes it names.
+fn start(line: &[u8]) -> Result<Run, Refusal> {
+    match forms::first(line)? {
+        First::Ring(start) => Ok(Run::Ring(RingRun {
+            ring: Ring::start(start.n, &start.flags()?)?,
+            counts: Counts::default(),
+        })),
+        First::Tree(n, root) => Ok(Run::Tree(Tree::start(n, root)?)),
+        First::Update(update, start) => {
+            let mut run = Box::<UpdatesRun>::default();
+            run.start(update, &start)?;
+            Ok(Run::Updates(run))
         }
     }
 }
 
-impl RingRun {
-    fn carry_out(&mut self, form: &[u8]) -> Result<(), Refusal> {
-        let request = ring_request(form)?;
-        self.ring.apply(request, self.sends)?;
+impl Counts {
+    /// Counts an accepted step.
+    fn count(&mut self, request: Request) {
         match request.kind {
             SEND => self.sends += 1,
             PROBE | PASS => self.moves += 1,
             _ => {}
         }
+    }
+}
+
+impl RingRun {
+    fn carry_out(&mut self, request: Request) -> Result<(), Refusal> {
+        self.ring.apply(request, self.counts.sends)?;
+        self.counts.count(request);
         Ok(())
     }
 }
 
-/// What stands between the outer brackets of a line that is not too long.
-fn form_of(line: &[u8]) -> Result<&[u8], Refusal> {
-    if line.len() > LINE_BYTES {
-        return Err(Refusal::NotAForm);
-    }
-    line.strip_prefix(b"(")
-        .and_then(|line| line.strip_suffix(b")\n"))
-        .ok_or(Refusal::NotAForm)
-}
-
-/// The first line. Its form is judged whole, then N, then the nodes it names.
-fn start(form: &[u8]) -> Result<Run, Refusal> {
-    let mut items = Items { rest: form };
-    if items.literal(b"ring ").is_ok() {
-        start_ring(items)
-    } else {
-        items.literal(b"tree ")?;
-        start_tree(items)
-    }
-}
-
-/// `ring N` with both lists or neither.
-fn start_ring(mut items: Items) -> Result<Run, Refusal> {
-    let n = items.number()?;
-    let (active, black) = if items.rest.is_empty() {
-        (Vec::new(), Vec::new())
-    } else {
-        items.literal(b" (active")?;
-        let active = items.list()?;
-        items.literal(b") (black")?;
-        let black = items.list()?;
-        items.literal(b")")?;
-        (active, black)
-    };
-    items.end()?;
-    if !(1..=ring::MAX_NODES).contains(&n) {
-        return Err(Refusal::NodeCount);
-    }
-    let mut flags = vec![0; n];
-    for (list, bit) in [(active, 1), (black, 2)] {
-        for i in list {
-            *flags.get_mut(i).ok_or(Refusal::UnknownNode)? |= bit;
+impl UpdatesRun {
+    fn carry_out(&mut self, (update, wrapped): (usize, Wrapped)) -> Result<(), Refusal> {
+        match wrapped {
+            Wrapped::Start(start) => self.start(update, &start),
+            Wrapped::Step(request) => self.step(update, request),
         }
     }
-    Ok(Run::Ring(RingRun {
-        ring: Ring::start(n, &flags)?,
-        sends: 0,
-        moves: 0,
-    }))
-}
 
-/// `tree N (root R)`.
-fn start_tree(mut items: Items) -> Result<Run, Refusal> {
-    let n = items.number()?;
-    items.literal(b" (root ")?;
-    let root = items.number()?;
-    items.literal(b")")?;
-    items.end()?;
-    Ok(Run::Tree(Tree::start(n, root)?))
-}
-
-fn ring_request(form: &[u8]) -> Result<Request, Refusal> {
-    let (word, numbers) = split_word(form);
-    match word {
-        b"send" => two(SEND, numbers),
-        b"take" => one(TAKE, numbers),
-        b"idle" => one(IDLE, numbers),
-        b"probe" => none(PROBE, numbers),
-        b"pass" => one(PASS, numbers),
-        b"announce" => none(ANNOUNCE, numbers),
-        _ => Err(Refusal::NotAForm),
-    }
-}
-
-fn tree_request(form: &[u8]) -> Result<Request, Refusal> {
-    let (word, numbers) = split_word(form);
-    match word {
-        b"send" => two(SEND, numbers),
-        b"take" => two(TAKE, numbers),
-        b"idle" => one(IDLE, numbers),
-        b"ack" => one(ACK, numbers),
-        b"leave" => one(LEAVE, numbers),
-        b"announce" => none(ANNOUNCE, numbers),
-        _ => Err(Refusal::NotAForm),
-    }
-}
-
-/// A form's word, and what follows it from the first space on.
-fn split_word(form: &[u8]) -> (&[u8], Items<'_>) {
-    let end = form.iter().position(|&byte| byte == b' ');
-    let (word, rest) = form.split_at(end.unwrap_or(form.len()));
-    (word, Items { rest })
-}
-
-fn none(kind: usize, items: Items) -> Result<Request, Refusal> {
-    items.end()?;
-    Ok(Request::new(kind, 0, 0))
-}
-
-fn one(kind: usize, mut items: Items) -> Result<Request, Refusal> {
-    let i = items.spaced_number()?;
-    items.end()?;
-    Ok(Request::new(kind, i, 0))
-}
-
-fn two(kind: usize, mut items: Items) -> Result<Request, Refusal> {
-    let i = items.spaced_number()?;
-    let j = items.spaced_number()?;
-    items.end()?;
-    Ok(Request::new(kind, i, j))
-}
-
-/// The items of a form, read from the left.
-struct Items<'a> {
-    rest: &'a [u8],
-}
-
-impl Items<'_> {
-    fn literal(&mut self, bytes: &[u8]) -> Result<(), Refusal> {
-        self.rest = self.rest.strip_prefix(bytes).ok_or(Refusal::NotAForm)?;
+    /// A start, which begins the update's counts anew.
+    fn start(&mut self, update: usize, start: &RingStart) -> Result<(), Refusal> {
+        self.table.check_start(update, start.n)?;
+        let ring = Ring::start(start.n, &start.flags()?)?;
+        self.table.updates[update] = Some(ring);
+        self.counts[update] = Counts::default();
         Ok(())
     }
 
-    /// One to five digits without a leading zero.
-    fn number(&mut self) -> Result<usize, Refusal> {
-        let (digits, rest) = self.rest.split_at(decimal::digits(self.rest));
-        if !(1..=DIGIT_LIMIT).contains(&digits.len()) || decimal::has_leading_zero(digits) {
-            return Err(Refusal::NotAForm);
-        }
-        self.rest = rest;
-        Ok(decimal::value(digits))
-    }
-
-    fn spaced_number(&mut self) -> Result<usize, Refusal> {
-        self.literal(b" ")?;
-        self.number()
-    }
-
-    /// Numbers that ascend without repeats, each after one space.
-    fn list(&mut self) -> Result<Vec<usize>, Refusal> {
-        let mut list = Vec::new();
-        while self.rest.starts_with(b" ") {
-            let i = self.spaced_number()?;
-            if list.last().is_some_and(|&last| i <= last) {
-                return Err(Refusal::NotAForm);
-            }
-            list.push(i);
-        }
-        Ok(list)
-    }
-
-    fn end(&self) -> Result<(), Refusal> {
-        if self.rest.is_empty() {
-            Ok(())
-        } else {
-            Err(Refusal::NotAForm)
-        }
+    fn step(&mut self, update: usize, request: Request) -> Result<(), Refusal> {
+        let sends = self.counts.iter().map(|counts| counts.sends).sum();
+        self.table.apply(update, request, sends)?;
+        self.counts[update].count(request);
+        Ok(())
     }
 }
 
@@ -363,15 +256,28 @@ fn push_item(out: &mut Vec<u8>, word: &[u8], value: u64) {
     out.push(b')');
 }
 
-fn push_ring_end(out: &mut Vec<u8>, run: &RingRun) {
-    let ring = &run.ring;
+/// The end of a ring, without its byte 10.
+fn push_ring_end(out: &mut Vec<u8>, ring: &Ring, counts: Counts) {
     out.extend_from_slice(b"(end");
     push_item(out, b"boards", ring.n as u64);
     push_item(out, b"holder", ring.token.pos as u64);
-    push_item(out, b"moves", run.moves);
+    push_item(out, b"moves", counts.moves);
     push_item(out, b"flight", ring.in_transit());
     push_item(out, b"black", u64::from(ring.black_nodes()));
-    out.extend_from_slice(b")\n");
+    out.push(b')');
+}
+
+/// A line for each started update, ascending.
+fn push_updates_end(out: &mut Vec<u8>, run: &UpdatesRun) {
+    for (update, ring) in run.table.updates.iter().enumerate() {
+        if let Some(ring) = ring {
+            out.extend_from_slice(b"(update ");
+            decimal::push(out, update as u64);
+            out.push(b' ');
+            push_ring_end(out, ring, run.counts[update]);
+            out.extend_from_slice(b")\n");
+        }
+    }
 }
 
 fn push_tree_end(out: &mut Vec<u8>, tree: &Tree) {

@@ -27,11 +27,13 @@ pub enum Refusal {
     MoveLimit = 11,
     /// The lent buffer is shorter than the tree's text.
     ShortBuffer = 12,
+    /// An update's number is above 7, or a step names one that is not started.
+    UnknownUpdate = 13,
 }
 
 impl Refusal {
     /// In the order of their numbers.
-    pub const ALL: [Refusal; 12] = [
+    pub const ALL: [Refusal; 13] = [
         Refusal::NodeCount,
         Refusal::StartFlags,
         Refusal::Unsound,
@@ -44,6 +46,7 @@ impl Refusal {
         Refusal::NotAForm,
         Refusal::MoveLimit,
         Refusal::ShortBuffer,
+        Refusal::UnknownUpdate,
     ];
 
     /// The number in the paper's table.

@@ -105,6 +105,11 @@ impl Ring {
         i64::from(self.sent[i]) - i64::from(self.received[i])
     }
 
+    /// Sends that were accepted since the start.
+    pub fn sends(&self) -> u64 {
+        total(&self.sent)
+    }
+
     /// Messages in transit to all nodes: `flight` of the log.
     pub fn in_transit(&self) -> u64 {
         total(&self.pending)
@@ -138,7 +143,7 @@ impl Ring {
 
     /// Sends are within the limit and equal receipts plus messages in transit.
     fn totals_agree(&self) -> bool {
-        let sent = total(&self.sent);
+        let sent = self.sends();
         sent <= u64::from(SEND_LIMIT) && sent == total(&self.received) + total(&self.pending)
     }
 
@@ -208,7 +213,7 @@ impl Ring {
         if !self.is_sound() {
             return Err(Refusal::Unsound);
         }
-        let sends = total(&self.sent);
+        let sends = self.sends();
         self.apply(request, sends)
     }
 

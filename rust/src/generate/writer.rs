@@ -84,7 +84,7 @@ impl Writer {
         match self.reader.run() {
             Run::Ring(run) => &run.ring,
             Run::Tree(tree) => tree,
-            Run::Unstarted | Run::Refused => panic!("a refused first line"),
+            Run::Unstarted | Run::Refused | Run::Updates(_) => panic!("no ring and no tree"),
         }
     }
 

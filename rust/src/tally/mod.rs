@@ -9,6 +9,7 @@ use crate::bounds::logs::{
     ACCEPTED_PART, ANNOUNCED_IN_ALL, NO_FORM_PART, ON_ALL, ON_LARGE, WIDTHS,
 };
 use crate::bounds::Met;
+use crate::forms;
 use crate::log::{Log, Run};
 use crate::report::Report;
 use crate::request::Request;
@@ -135,11 +136,14 @@ impl Tally {
     }
 
     fn count_line(&mut self, run: &Run, line: &[u8], answer: usize) {
-        let request = run.request(line).ok();
         match run {
             Run::Unstarted | Run::Refused => self.starts.count(line, answer),
-            Run::Ring(run) => self.ring.count(&run.ring, request, answer),
-            Run::Tree(tree) => self.tree.count(tree, request, answer),
+            Run::Ring(run) => {
+                let request = forms::of_ring(line).ok();
+                self.ring.count(&run.ring, request, answer);
+            }
+            Run::Tree(tree) => self.tree.count(tree, forms::of_tree(line).ok(), answer),
+            Run::Updates(_) => todo!(),
         }
     }
 
