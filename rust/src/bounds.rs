@@ -87,6 +87,42 @@ pub mod logs {
     pub const NO_FORM_PART: usize = 10;
 }
 
+/// Of the logs of updates.
+pub mod updates {
+    use super::{asked, Asked, LARGE_RINGS};
+
+    pub const UNKNOWN_UPDATE: usize = 13;
+    pub const NODE_COUNT: usize = 1;
+    /// The refusals of first lines, of starts after the first line, and of steps that are forms. No other can come: a step
+    /// is not refused with 3, 5 or 9 for the reasons that hold of bare logs.
+    pub const OF_FIRST: [usize; 4] = [1, 6, 10, 13];
+    pub const OF_START: [usize; 3] = [1, 6, 13];
+    pub const OF_STEP: [usize; 5] = [4, 6, 7, 8, 13];
+    /// Logs, and accepted lines of them: one in so many at least; one in so many no form at most.
+    pub const LOGS: usize = 500;
+    pub const LINES: usize = 200_000;
+    pub const ACCEPTED_PART: usize = 2;
+    pub const NO_FORM_PART: usize = 10;
+    /// One line in so many is of another update than the line before.
+    pub const CHANGES_PART: usize = 2;
+    pub const STEPS_OF_EACH: usize = 10_000;
+    pub const ANNOUNCED_OF_EACH: usize = 500;
+    pub const ANNOUNCED: usize = 5_000;
+    pub const ANNOUNCED_ON_LARGE: usize = 1_000;
+    /// Fresh starts of an open update, and of an announced one.
+    pub const FRESH: usize = 2_000;
+    /// Each refusal of a first line, of a start, of a step.
+    pub const FIRST_LINES: usize = 50;
+    pub const STARTS: usize = 500;
+    pub const STEPS: usize = 1_000;
+    /// Each cause of a refusal.
+    pub const CAUSES: usize = 100;
+    /// Lines of the greatest length, and of a byte more.
+    pub const LENGTHS: usize = 30;
+    pub const ON_LARGE: Asked = asked(LARGE_RINGS, 100_000, 20_000);
+    pub const SIZES: usize = 40;
+}
+
 /// Of the calls on rings and on trees.
 pub mod calls {
     use super::{asked, ring, tree, Asked, LARGE_RINGS, LARGE_TREES};

@@ -1,6 +1,6 @@
 //! What the generated logs are for: accepted steps mostly, and the limit of lines.
 
-use second::generate::{log, past_line_limit};
+use second::generate::{busy_updates, log, past_line_limit, updates_log, updates_past_line_limit};
 use second::log::{run, LINE_LIMIT};
 use second::report::Report;
 use second::tally::{split, Tally};
@@ -33,4 +33,48 @@ fn the_last_line_that_is_read_is_accepted() {
         let last = split(&answers).nth(LINE_LIMIT as usize - 1);
         assert_eq!(last, Some(&b"(ok 1000000)\n"[..]));
     }
+}
+
+#[test]
+fn a_seed_gives_the_same_log_of_updates() {
+    for seed in 0..100 {
+        assert_eq!(updates_log(seed, 50), updates_log(seed, 50));
+        assert_ne!(updates_log(seed, 50), updates_log(seed + 1, 50));
+    }
+}
+
+#[test]
+fn the_logs_of_updates_meet_what_is_asked() {
+    let mut tally = Tally::default();
+    for seed in 0..2_000 {
+        let log = updates_log(seed, 500);
+        tally.count(&log, &run(&log));
+    }
+    let mut report = Report::default();
+    tally.report_updates(&mut report);
+    assert!(report.holds());
+}
+
+#[test]
+fn the_last_line_of_updates_that_is_read_is_accepted() {
+    let log = updates_past_line_limit();
+    assert!(split(&log).count() > LINE_LIMIT as usize);
+    let answers = run(&log);
+    let last = split(&answers).nth(LINE_LIMIT as usize - 1);
+    assert_eq!(last, Some(&b"(ok 1000000)\n"[..]));
+    assert!(answers.ends_with(b")))\n"));
+}
+
+/// The same steps on eight rings and on one: as many are accepted, about nine in ten.
+#[test]
+fn busy_updates_are_accepted_on_one_ring_too() {
+    let lines = 20_000;
+    let accepted = busy_updates(lines).map(|log| {
+        let answers = run(&log);
+        split(&answers)
+            .filter(|answer| answer.starts_with(b"(ok "))
+            .count()
+    });
+    assert!(accepted.iter().all(|&count| count > lines * 9 / 10));
+    assert!(accepted[0].abs_diff(accepted[1]) < lines / 50);
 }

@@ -3,13 +3,13 @@
 //!
 //! Log k has the seed SEED + k and a share of the lines that are left, so a failing log
 //! comes again as `compare PROGRAM 1 SHARE ITS-SEED`. Two more logs, a ring's and a tree's
-//! that are longer than the greatest number of lines, follow at the end, with figures of
-//! their own.
+//! that are longer than the greatest number of lines, follow, with figures of their own.
+//! Then come as many logs of updates, by the same seeds, and one past the limit of lines.
 //!
 //! Then it prints what was met, each figure with its bound, and fails if one is not within
 //! it. With a SEED no bound is asked: that is for finding a fault again.
 
-use second::generate::{log, past_line_limit, Rng};
+use second::generate::{log, past_line_limit, updates_log, updates_past_line_limit, Rng};
 use second::log::{run, Log};
 use second::report::Report;
 use second::tally::{split, Tally};
@@ -49,19 +49,34 @@ fn parse(arguments: &[String]) -> Option<(&str, usize, usize, Option<u64>)> {
 /// The logs by seed, of which every figure is asked, and those past the limit of lines.
 fn compare(program: &str, logs: usize, lines: usize, seed: u64) -> Result<Report, String> {
     let mut report = Report::default();
-    let by_seed = compare_seeds(program, logs, lines, seed)?;
+    let by_seed = compare_seeds(program, logs, lines, seed, log)?;
     by_seed.report_shares("same: logs by seed", &mut report);
     by_seed.report(&mut report);
-    let mut long = Tally::default();
-    for input in past_line_limit() {
-        compare_one(program, seed, &input, &mut long)
-            .map_err(|failure| format!("FAILED: a log past the limit of lines: {failure}"))?;
-    }
+    let long = compare_long(program, seed, &past_line_limit())?;
     long.report_shares("same: logs past the limit of lines", &mut report);
+    let of_updates = compare_seeds(program, logs, lines, seed, updates_log)?;
+    of_updates.report_updates(&mut report);
+    compare_long(program, seed, &[updates_past_line_limit()])?;
+    report.told("same: logs of updates past the limit of lines", 1);
     Ok(report)
 }
 
-fn compare_seeds(program: &str, logs: usize, lines: usize, seed: u64) -> Result<Tally, String> {
+fn compare_long(program: &str, seed: u64, inputs: &[Vec<u8>]) -> Result<Tally, String> {
+    let mut tally = Tally::default();
+    for input in inputs {
+        compare_one(program, seed, input, &mut tally)
+            .map_err(|failure| format!("FAILED: a log past the limit of lines: {failure}"))?;
+    }
+    Ok(tally)
+}
+
+fn compare_seeds(
+    program: &str,
+    logs: usize,
+    lines: usize,
+    seed: u64,
+    log: fn(u64, usize) -> Vec<u8>,
+) -> Result<Tally, String> {
     let mut tally = Tally::default();
     let mut left = lines;
     for k in 0..logs {

@@ -2,6 +2,7 @@
 
 use super::rng::Rng;
 use crate::log::LINE_BYTES;
+use crate::table::UPDATES;
 
 /// How a line is wrong.
 #[derive(Clone, Copy)]
@@ -14,6 +15,8 @@ pub enum Fault {
     Foreign,
     /// A line about the limit of bytes or far beyond it.
     Long,
+    /// A good line as one of an update.
+    Wrapped,
 }
 
 /// A wrong line in the place of a good one; it may hold more than one byte 10, or none.
@@ -23,7 +26,14 @@ pub fn fault(rng: &mut Rng, kind: Fault, good: &[u8]) -> Vec<u8> {
         Fault::Noise => noise(rng),
         Fault::Foreign => format!("{}\n", rng.pick(&FORMS)).into_bytes(),
         Fault::Long => long(rng, good),
+        Fault::Wrapped => wrapped(rng.below(2 * UPDATES), good),
     }
+}
+
+/// A line, which has its byte 10, as one of an update.
+pub fn wrapped(update: usize, line: &[u8]) -> Vec<u8> {
+    let inner = line.strip_suffix(b"\n").expect("a whole line");
+    [format!("(update {update} ").as_bytes(), inner, b")\n"].concat()
 }
 
 /// Bytes that lie near the forms, and some that lie far from them.

@@ -138,7 +138,11 @@ fn whole_limits() -> Vec<Vec<u8>> {
 /// A well formed ring line of `length` bytes with its byte 10: it names nodes of
 /// N or more, so it is refused with 6, or with 10 if it is too long.
 pub fn listed_start(length: usize) -> Vec<u8> {
-    let (head, tail) = ("(ring 96 (active", ") (black))\n");
+    listed("(ring 96 (active", ") (black))\n", length)
+}
+
+/// Ascending entries between `head` and `tail`, so that the line has `length` bytes.
+pub fn listed(head: &str, tail: &str, length: usize) -> Vec<u8> {
     let mut room = length - head.len() - tail.len();
     let mut line = head.to_string();
     // Entries of one digit take 2 bytes, of two digits 3, of five digits 6.
@@ -164,7 +168,7 @@ pub fn limit(rng: &mut Rng, index: usize) -> Vec<u8> {
 }
 
 /// Lines past the greatest number of lines.
-const PAST: usize = 1_000;
+pub const PAST: usize = 1_000;
 
 /// A ring's log and a tree's that go on past the greatest number of lines: those are all
 /// read and no more. The last of them and the first past it are allowed requests.

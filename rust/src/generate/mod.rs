@@ -8,6 +8,8 @@ mod model;
 mod relay;
 mod rng;
 mod starts;
+mod update_starts;
+mod updates;
 mod writer;
 
 pub use limits::past_line_limit;
@@ -21,6 +23,8 @@ use faults::Fault;
 use limits::limit;
 use relay::Relay;
 use starts::{refused_start, CAUSES};
+use update_starts::{refused_update, update_limit, UPDATE_CAUSES};
+use updates::Updates;
 use writer::{Mix, Writer};
 
 const fn mix(random: usize, tempting: usize, faults: usize, fault: Fault) -> Mix {
@@ -59,6 +63,8 @@ const MIXES: [Mix; 10] = [
 /// Lines that are too long take much room, so few logs have them, and no large ones.
 const LONG_LINES: Mix = mix(0, 10, 20, Fault::Long);
 const FEW_LINES: usize = 200;
+/// Lines of updates in a bare log.
+const WRAPPED_LINES: Mix = mix(0, 5, 10, Fault::Wrapped);
 /// A run that is nearly over from its beginning.
 const NEAR_THE_END: Mix = Mix {
     eager: 80,
@@ -131,6 +137,51 @@ pub fn log(seed: u64, size: usize) -> Vec<u8> {
         }
         cause => refused_start(&mut rng, cause - 7 - LATE, round),
     }
+}
+
+/// The seeds take turns here too: updates with each mix, long lines, large rings, a bare ring and a bare tree with lines
+/// of updates, listed limits, and first lines refused for each cause.
+const UPDATE_TURNS: usize = MIXES.len() + 6 + UPDATE_CAUSES;
+
+/// The log of updates of a seed, of about `size` lines on the average; or a bare log with lines of updates.
+pub fn updates_log(seed: u64, size: usize) -> Vec<u8> {
+    let mut rng = Rng::new(!seed);
+    let turn = (seed % UPDATE_TURNS as u64) as usize;
+    let round = (seed / UPDATE_TURNS as u64) as usize;
+    let lines = 1 + rng.below(2 * size.max(4));
+    if let Some(&mix) = MIXES.get(turn) {
+        let n = ring_size(&mut rng);
+        let log = interleaved(&mut rng, n, lines, mix);
+        return cut(&mut rng, log);
+    }
+    match turn - MIXES.len() {
+        0 => {
+            let n = ring_size(&mut rng);
+            let log = interleaved(&mut rng, n, lines.min(FEW_LINES), LONG_LINES);
+            long_end(&mut rng, log)
+        }
+        1 | 2 => {
+            let n = rng.pick(&[9, 31, 64, ring::MAX_NODES]);
+            interleaved(&mut rng, n, 4 * size, LARGE)
+        }
+        bare @ (3 | 4) => {
+            let lines = lines.min(FEW_LINES);
+            started(&mut rng, bare).whole_run(&mut rng, lines, WRAPPED_LINES)
+        }
+        5 => update_limit(&mut rng, round),
+        cause => refused_update(&mut rng, cause - 6, round),
+    }
+}
+
+fn interleaved(rng: &mut Rng, n: usize, lines: usize, mix: Mix) -> Vec<u8> {
+    let mut updates = Updates::new(rng, n);
+    updates.guided(rng, lines, mix);
+    updates.finish()
+}
+
+/// A log of updates that is longer than the greatest number of lines.
+pub fn updates_past_line_limit() -> Vec<u8> {
+    updates::updates_past_line_limit(LARGE)
 }
 
 /// Now and then the last line lacks its byte 10.
@@ -206,6 +257,11 @@ pub fn busy_ring(lines: usize) -> Vec<u8> {
     let mut writer = Writer::ring(ring::MAX_NODES, &half, &[]);
     writer.guided(rng, lines, BENCHMARK, false);
     writer.finish()
+}
+
+/// Eight busy rings of the greatest size, and the same steps unwrapped on one.
+pub fn busy_updates(lines: usize) -> [Vec<u8>; 2] {
+    updates::busy_updates(lines, BENCHMARK.random)
 }
 
 /// A ring of 2 that only moves its token. Node 0 has sent a message that is never

@@ -7,7 +7,7 @@ use crate::tree::Tree;
 
 /// The words of the log by kind number less one, each with its count of numbers.
 pub type Words = [(&'static str, usize); 6];
-const RING_WORDS: Words = [
+pub const RING_WORDS: Words = [
     ("send", 2),
     ("take", 1),
     ("idle", 1),

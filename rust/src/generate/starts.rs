@@ -11,7 +11,7 @@ use crate::{ring, tree};
 pub const CAUSES: usize = 5;
 
 /// A number above `last`; cut to 8 or 16 bits some are not above it.
-fn above(rng: &mut Rng, last: usize) -> usize {
+pub fn above(rng: &mut Rng, last: usize) -> usize {
     let within = rng.below(last + 1);
     let cut = [1 << 8 | within, 1 << 16 | within];
     rng.pick(&[last + 1, last + 1, last + 2, cut[0], cut[1], cut[1], 99_999])

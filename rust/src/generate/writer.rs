@@ -44,21 +44,12 @@ impl Writer {
     }
 
     pub fn ring(n: usize, active: &[usize], black: &[usize]) -> Self {
-        let mut line = format!("(ring {n}").into_bytes();
-        if !active.is_empty() || !black.is_empty() || n.is_multiple_of(2) {
-            push_list(&mut line, " (active", active);
-            push_list(&mut line, " (black", black);
-        }
-        line.extend_from_slice(b")\n");
-        Self::new(&line)
+        Self::new(&ring_line(n, active, black))
     }
 
     /// A ring with random lists.
     pub fn random_ring(rng: &mut Rng, n: usize) -> Self {
-        let (share_active, share_black) = (rng.below(101), rng.below(101));
-        let active: Vec<usize> = (0..n).filter(|_| rng.chance(share_active)).collect();
-        let black: Vec<usize> = (0..n).filter(|_| rng.chance(share_black)).collect();
-        Self::ring(n, &active, &black)
+        Self::new(&random_ring_line(rng, n))
     }
 
     pub fn tree(n: usize, root: usize) -> Self {
@@ -178,6 +169,25 @@ fn allowed(rng: &mut Rng, model: &dyn Model, mix: Mix, winding_down: bool) -> Op
     model.allowed(rng, no_sends)
 }
 
+/// A ring's start.
+pub fn ring_line(n: usize, active: &[usize], black: &[usize]) -> Vec<u8> {
+    let mut line = format!("(ring {n}").into_bytes();
+    if !active.is_empty() || !black.is_empty() || n.is_multiple_of(2) {
+        push_list(&mut line, " (active", active);
+        push_list(&mut line, " (black", black);
+    }
+    line.extend_from_slice(b")\n");
+    line
+}
+
+/// A ring's start with random lists.
+pub fn random_ring_line(rng: &mut Rng, n: usize) -> Vec<u8> {
+    let (share_active, share_black) = (rng.below(101), rng.below(101));
+    let active: Vec<usize> = (0..n).filter(|_| rng.chance(share_active)).collect();
+    let black: Vec<usize> = (0..n).filter(|_| rng.chance(share_black)).collect();
+    ring_line(n, &active, &black)
+}
+
 fn push_list(line: &mut Vec<u8>, word: &str, list: &[usize]) {
     line.extend_from_slice(word.as_bytes());
     for i in list {
@@ -186,7 +196,7 @@ fn push_list(line: &mut Vec<u8>, word: &str, list: &[usize]) {
     line.push(b')');
 }
 
-fn line_of(words: &Words, request: Request) -> Vec<u8> {
+pub fn line_of(words: &Words, request: Request) -> Vec<u8> {
     let (word, count) = words[request.kind - 1];
     let mut line = format!("({word}").into_bytes();
     for number in [request.i, request.j].iter().take(count) {
@@ -197,7 +207,7 @@ fn line_of(words: &Words, request: Request) -> Vec<u8> {
 }
 
 /// Any kind, with numbers that are mostly below `n`.
-fn random_request(rng: &mut Rng, n: usize) -> Request {
+pub fn random_request(rng: &mut Rng, n: usize) -> Request {
     let kind = 1 + rng.below(6);
     Request::new(kind, random_number(rng, n), random_number(rng, n))
 }

@@ -4,11 +4,12 @@
 mod cases;
 mod starts;
 mod steps;
+mod updates;
 
 use crate::bounds::logs::{
     ACCEPTED_PART, ANNOUNCED_IN_ALL, NO_FORM_PART, ON_ALL, ON_LARGE, WIDTHS,
 };
-use crate::bounds::Met;
+use crate::bounds::{self, Met};
 use crate::forms;
 use crate::log::{Log, Run};
 use crate::report::Report;
@@ -17,12 +18,15 @@ use crate::sizes::{range_name, Sizes};
 use cases::{Cases, RingCases, TreeCases};
 use starts::Starts;
 use steps::{Steps, Words};
+use updates::Updates;
 
-/// Numbers of answers: 0 is an accepted line, 1 to 12 are the refusals.
-const ANSWERS: usize = 13;
+/// Numbers of answers: 0 is an accepted line, 1 to 13 are the refusals.
+const ANSWERS: usize = 14;
 const CLOSED: usize = 4;
 const UNKNOWN_NODE: usize = 6;
 const NOT_A_FORM: usize = 10;
+/// What a line of an update begins with.
+const UPDATE: &[u8] = b"(update ";
 
 /// The lines of a log, each with its byte 10 if it has one.
 pub fn split(bytes: &[u8]) -> impl Iterator<Item = &[u8]> {
@@ -113,6 +117,9 @@ pub struct Tally {
     starts: Starts,
     ring: Detector<RingCases>,
     tree: Detector<TreeCases>,
+    updates: Updates,
+    /// Lines of updates in bare logs.
+    misplaced: usize,
 }
 
 impl Tally {
@@ -137,13 +144,20 @@ impl Tally {
 
     fn count_line(&mut self, run: &Run, line: &[u8], answer: usize) {
         match run {
+            Run::Unstarted | Run::Refused if line.starts_with(UPDATE) => {
+                self.updates.count_first(line, answer);
+            }
             Run::Unstarted | Run::Refused => self.starts.count(line, answer),
             Run::Ring(run) => {
                 let request = forms::of_ring(line).ok();
                 self.ring.count(&run.ring, request, answer);
+                self.misplaced += usize::from(forms::wrapped(line).is_ok());
             }
-            Run::Tree(tree) => self.tree.count(tree, forms::of_tree(line).ok(), answer),
-            Run::Updates(_) => todo!(),
+            Run::Tree(tree) => {
+                self.tree.count(tree, forms::of_tree(line).ok(), answer);
+                self.misplaced += usize::from(forms::wrapped(line).is_ok());
+            }
+            Run::Updates(run) => self.updates.count(run, line, answer),
         }
     }
 
@@ -176,5 +190,15 @@ impl Tally {
         report.at_least("logs announced", announced, ANNOUNCED_IN_ALL);
         self.ring.report(report);
         self.tree.report(report);
+    }
+
+    /// What is asked of the logs of updates, and of bare logs with lines of updates.
+    pub fn report_updates(&self, report: &mut Report) {
+        self.updates.report(report);
+        report.at_least(
+            "lines of updates in bare logs",
+            self.misplaced,
+            bounds::updates::CAUSES,
+        );
     }
 }
