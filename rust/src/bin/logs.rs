@@ -1,6 +1,6 @@
-//! Writes a benchmark log to standard output: `logs busy|token|tree [LINES]`.
+//! Writes a benchmark log to standard output: `logs busy|token|tree|updates|unwrapped [LINES]`.
 
-use second::generate::{busy_ring, busy_tree, moving_token};
+use second::generate::{busy_ring, busy_tree, busy_updates, moving_token};
 use second::log::LINE_LIMIT;
 use std::io::{self, Write};
 use std::process::ExitCode;
@@ -15,8 +15,10 @@ fn main() -> ExitCode {
         ("busy", Ok(lines)) => busy_ring(lines),
         ("token", Ok(lines)) => moving_token(lines),
         ("tree", Ok(lines)) => busy_tree(lines),
+        ("updates", Ok(lines)) => busy_updates(lines)[0].clone(),
+        ("unwrapped", Ok(lines)) => busy_updates(lines)[1].clone(),
         _ => {
-            eprintln!("usage: logs busy|token|tree [LINES]");
+            eprintln!("usage: logs busy|token|tree|updates|unwrapped [LINES]");
             return ExitCode::FAILURE;
         }
     };

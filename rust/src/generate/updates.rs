@@ -264,8 +264,8 @@ pub fn updates_past_line_limit(mix: Mix) -> Vec<u8> {
     updates.finish()
 }
 
-/// Eight busy rings of the greatest size that are never quiet, `lines` lines; and the same steps unwrapped on one ring. What the
-/// rules allow of an update here they allow of that one ring too, but for the `random` of a hundred that are any requests.
+/// Eight busy rings of the greatest size that are never quiet, `lines` lines; and the same steps unwrapped on one ring, each with
+/// the same answer. In a hundred steps `random` are any requests, the others are allowed.
 pub fn busy_updates(lines: usize, random: usize) -> [Vec<u8>; 2] {
     let rng = &mut Rng::new(796);
     let half: Vec<usize> = (0..MAX_NODES).filter(|i| i % 2 == 0).collect();
@@ -290,23 +290,25 @@ pub fn busy_updates(lines: usize, random: usize) -> [Vec<u8>; 2] {
     logs
 }
 
-/// A step of an update that the one ring allows too, or any request; none makes the update quiet, nor the one ring.
+/// A step of an update that is answered alike on the one ring, and makes neither quiet.
 fn busy_step(rng: &mut Rng, logs: &[Log; 2], random: usize) -> (usize, Request) {
     let [Run::Updates(updates), Run::Ring(one)] = [logs[0].run(), logs[1].run()] else {
         panic!("eight rings and one");
     };
+    let any = rng.chance(random);
     loop {
         let update = rng_update(rng);
         let ring = updates.table.updates[update].as_ref().expect("a start");
-        let request = if rng.chance(random) {
-            Some(random_request(rng, MAX_NODES))
+        let request = if any {
+            random_request(rng, MAX_NODES)
         } else {
-            let allowed = ring.allowed(rng, false);
-            allowed.filter(|&request| one.ring.clone().apply(request, 0).is_ok())
+            ring.allowed(rng, false).expect("a ring that is not quiet")
         };
-        let lasts =
-            |request: &Request| !ring.terminates(*request) && !one.ring.terminates(*request);
-        if let Some(request) = request.filter(lasts) {
+        let [answer, other] = [ring, &one.ring].map(|ring| ring.clone().apply(request, 0));
+        let lasts = [ring, &one.ring]
+            .iter()
+            .all(|ring| !ring.terminates(request));
+        if answer == other && lasts {
             return (update, request);
         }
     }
