@@ -1,14 +1,52 @@
-//! Links the proved functions, target/staticlib/libmuzserlik.a of the repository.
+//! Links the proved functions, target/staticlib/libmuzserlik.a of the repository, and the header's functions of a table.
 
-use std::path::Path;
+use std::path::{Path, PathBuf};
+use std::process::Command;
+
+fn variable(name: &str) -> PathBuf {
+    PathBuf::from(std::env::var(name).expect("set by cargo"))
+}
+
+fn run(program: &str, arguments: &[&str]) {
+    let status = Command::new(program).args(arguments).status();
+    assert!(status.is_ok_and(|status| status.success()), "{program}");
+}
+
+/// The header's inline functions, compiled with its own flags.
+fn compile(header: &Path, out: &Path) {
+    let (object, archive) = (out.join("table.o"), out.join("libtable_calls.a"));
+    let [include, object, archive] =
+        [header, &object, &archive].map(|path| path.to_str().expect("a path of plain text"));
+    let flags = [
+        "-std=c11",
+        "-Wall",
+        "-Wextra",
+        "-Werror",
+        "-pedantic",
+        "-O2",
+    ];
+    run(
+        "cc",
+        &[&flags[..], &["-I", include, "-c", "table.c", "-o", object]].concat(),
+    );
+    run("ar", &["rcs", archive, object]);
+}
 
 fn main() {
-    let here = std::env::var("CARGO_MANIFEST_DIR").expect("set by cargo");
-    let library = Path::new(&here).join("../../target/staticlib");
+    let here = variable("CARGO_MANIFEST_DIR");
+    let (library, header) = (here.join("../../target/staticlib"), here.join("../../c"));
+    let out = variable("OUT_DIR");
+    compile(&header, &out);
+    println!("cargo:rustc-link-search=native={}", out.display());
+    println!("cargo:rustc-link-lib=static=table_calls");
     println!("cargo:rustc-link-search=native={}", library.display());
     println!("cargo:rustc-link-lib=static=muzserlik");
-    println!(
-        "cargo:rerun-if-changed={}",
-        library.join("libmuzserlik.a").display()
-    );
+    let files = [
+        library.join("libmuzserlik.a"),
+        header.join("muzserlik.h"),
+        here.join("table.c"),
+    ];
+    for file in files {
+        println!("cargo:rerun-if-changed={}", file.display());
+    }
 }

@@ -156,10 +156,32 @@ pub mod calls {
     pub const TRUTH: usize = 500;
 }
 
+/// Of the calls on tables of updates.
+pub mod tables {
+    use super::{asked, ring, Asked, LARGE_RINGS};
+
+    /// Steps of runs.
+    pub const STEPS: usize = 300_000;
+    pub const ANNOUNCED: usize = 1_000;
+    /// Fresh starts of open updates, and of announced ones.
+    pub const FRESH: usize = 500;
+    /// Sends that are accepted again since another update was started afresh.
+    pub const GIVEN_BACK: usize = 50;
+    /// Accepted calls of each update.
+    pub const OF_EACH: usize = 5_000;
+    pub const ON_TABLES: [Asked; 4] = [
+        asked(1..=1, 500, 500),
+        asked(2..=8, 30_000, 10_000),
+        asked(LARGE_RINGS, 30_000, 10_000),
+        asked(ring::MAX_NODES..=ring::MAX_NODES, 10_000, 3_000),
+    ];
+}
+
 /// The numbers that each call answers: each has to be met, and no other.
 pub mod answers {
     pub const RING_START: [usize; 3] = [0, 1, 2];
     pub const RING_DRIVE: [usize; 6] = [3, 4, 11, 100, 101, 102];
+    pub const TABLE_START: [usize; 4] = [0, 1, 2, 13];
     pub const TREE_START: [usize; 3] = [0, 1, 6];
     pub const TREE_WRITE: [usize; 3] = [0, 3, 12];
     pub const TREE_READ: [usize; 4] = [0, 1, 6, 10];
@@ -169,6 +191,8 @@ pub mod answers {
     pub const OF_LOG: [usize; 5] = [4, 6, 7, 8, 10];
     /// The refusals of a step on a sound state; beside these it answers 0, or 3 if the state is not sound.
     pub const OF_SOUND: [usize; 6] = [4, 5, 6, 7, 8, 9];
+    /// The refusals of a step on a sound table, which answers 3 if it is not sound.
+    pub const OF_TABLE_STEP: [usize; 7] = [4, 5, 6, 7, 8, 9, 13];
     /// No or yes.
     pub const IS_SOUND: [usize; 2] = [0, 1];
 }

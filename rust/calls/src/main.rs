@@ -1,17 +1,19 @@
 //! Compares the proved functions, called through a static library, with the second implementation: starts; the steps of whole runs, which
 //! are guided by their states; wild states; the ring's driver; every value of each byte that stands for a truth; the tree's text, written,
-//! read back and damaged; and walks the states of EWD998 for N = 3 with the proved step, against document 001's table. What is lent to be
+//! read back and damaged; tables of eight updates, through the header's functions; and walks the states of EWD998 for N = 3 with the proved step, against document 001's table. What is lent to be
 //! written holds noise before each call, and a refusal must leave every byte of it; what is lent to be read is compared after each call too.
 //! It prints what was met, each figure with its bound, and fails if one is not within it.
 
 mod answers;
 mod flags;
 mod lent;
+mod lent_table;
 mod numbers;
 mod proved;
 mod requests;
 mod rings;
 mod same;
+mod tables;
 mod texts;
 mod trees;
 
@@ -29,6 +31,7 @@ fn main() {
     let mut report = Report::default();
     rings::compare(seed, &mut report);
     trees::compare(seed, &mut report);
+    tables::compare(seed, &mut report);
     flags::compare(seed, &mut report);
     texts::compare(seed, &mut report);
     walk(proved_step).report("the proved step", &mut report);

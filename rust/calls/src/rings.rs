@@ -16,7 +16,7 @@ use second::ring::{Reason, Ring, Token, COLOR_BYTES, MAX_NODES, MOVE_LIMIT};
 use second::sizes::Sizes;
 
 /// The fields that are broken, one alone or two.
-const FIELDS: [&str; 10] = [
+pub const FIELDS: [&str; 10] = [
     "n", "active", "color", "sent", "received", "pending", "pos", "q", "black", "closed",
 ];
 
@@ -215,7 +215,7 @@ fn limit(random: &mut Rng) -> usize {
 }
 
 /// The ring with one field set to something else.
-fn broken(ring: &Ring, field: usize, random: &mut Rng) -> Ring {
+pub fn broken(ring: &Ring, field: usize, random: &mut Rng) -> Ring {
     let mut wild = ring.clone();
     let at = random.below(MAX_NODES);
     let count = random.pick(&[0, 1, 2, SEND_LIMIT, SEND_LIMIT + 1, u32::MAX]);
