@@ -169,6 +169,8 @@ pub mod tables {
     pub const GIVEN_BACK: usize = 50;
     /// Accepted calls of each update.
     pub const OF_EACH: usize = 5_000;
+    /// Different sizes.
+    pub const SIZES: usize = 48;
     pub const ON_TABLES: [Asked; 4] = [
         asked(1..=1, 500, 500),
         asked(2..=8, 30_000, 10_000),

@@ -211,3 +211,13 @@ fn cut_anywhere_it_answers_alike() {
         assert_eq!(out, whole, "cut at {cut}");
     }
 }
+
+/// The sample's answers, which were worked out by hand.
+#[test]
+fn the_sample() {
+    let read = |name: &str| {
+        let path = format!("{}/../samples/updates.{name}", env!("CARGO_MANIFEST_DIR"));
+        std::fs::read(path).expect("the sample")
+    };
+    assert_eq!(run(&read("log")), read("out"));
+}

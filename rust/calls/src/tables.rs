@@ -290,8 +290,7 @@ impl Tables {
         self.soundness.report_all(&IS_SOUND, report);
         self.wild_starts.report(&[3], report);
         self.wild_steps.report(&[3], report);
-        self.sizes
-            .report("table", &ON_TABLES, MAX_NODES / 2, report);
+        self.sizes.report("table", &ON_TABLES, SIZES, report);
         report.at_least("table: updates announced", self.announced, ANNOUNCED);
         let fresh = [
             ("open", self.fresh_when_open),

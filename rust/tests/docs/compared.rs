@@ -2,8 +2,10 @@
 //! known to be none.
 
 use crate::repository::{in_thousands, joined, lost_phrases, places_of, read, section, tables};
-use second::bounds::{answers, calls, logs, texts, Asked, LARGE_RINGS, LARGE_TREES};
-use second::log::LINE_LIMIT;
+use second::bounds::{
+    answers, calls, logs, tables, texts, updates, Asked, LARGE_RINGS, LARGE_TREES,
+};
+use second::log::{LINE_BYTES, LINE_LIMIT};
 use second::sizes::range_name;
 use second::walk::FULL;
 use second::{ring, tree};
@@ -139,6 +141,80 @@ fn of_calls() -> Vec<String> {
     ]
 }
 
+fn of_updates() -> Vec<String> {
+    let [count, lines] = compared(&read(".ci/run"));
+    let millions = (lines + LINE_LIMIT as usize) / 1_000_000;
+    let by_seed = "on {} logs by the same seeds and one past the limit of lines, {} million lines";
+    let (accepted, no_form) = (share(updates::ACCEPTED_PART), share(updates::NO_FORM_PART));
+    let large = range_name("rings", &LARGE_RINGS);
+    let on_large = format!("on {large} {{}} steps accepted, {{}} refused and {{}} announcements");
+    let asked = &updates::ON_LARGE;
+    let longest = format!("{} forms of {LINE_BYTES} bytes", updates::LENGTHS);
+    vec![
+        filled(by_seed, &[count, millions]),
+        filled("{} logs of updates", &[updates::LOGS]),
+        format!("at least {accepted} of their lines"),
+        filled("and {}, accepted", &[updates::LINES]),
+        format!("at most {no_form} no form"),
+        format!("{} of another update", share(updates::CHANGES_PART)),
+        filled(
+            "{} announcements, of each update {}",
+            &[updates::ANNOUNCED, updates::ANNOUNCED_OF_EACH],
+        ),
+        filled("and {} accepted steps", &[updates::STEPS_OF_EACH]),
+        filled("{} fresh starts of open", &[updates::FRESH]),
+        filled(
+            &on_large,
+            &[asked.accepted, asked.refused, updates::ANNOUNCED_ON_LARGE],
+        ),
+        filled("{} numbers of nodes", &[updates::SIZES]),
+        format!("{longest} and as many lines of {}", LINE_BYTES + 1),
+    ]
+}
+
+fn of_refused_updates() -> Vec<String> {
+    let numbers = |numbers: &[usize], phrase: &str, least: usize| {
+        filled(&(enumerated(numbers, "and") + phrase), &[least])
+    };
+    let widths = enumerated(&logs::WIDTHS, "or");
+    let cut = format!("13 for numbers that are updates if they are cut to {widths} bits");
+    vec![
+        numbers(
+            &updates::OF_FIRST,
+            " by {} first lines each",
+            updates::FIRST_LINES,
+        ),
+        numbers(&updates::OF_START, " by {} starts each", updates::STARTS),
+        numbers(&updates::OF_STEP, " by {} steps each", updates::STEPS),
+        cut,
+        "13 for an update above 7".to_owned(),
+        filled("each {} times", &[updates::CAUSES]),
+    ]
+}
+
+fn of_tables() -> Vec<String> {
+    let refusals = enumerated(&[&[3], &answers::OF_TABLE_STEP[..]].concat(), "and");
+    let starts = enumerated(&answers::TABLE_START, "and");
+    vec![
+        filled("{} steps of interleaved updates", &[tables::STEPS]),
+        filled(
+            &format!("{refusals}, to starts {starts} at least {{}} times each"),
+            &[calls::ANSWER],
+        ),
+        filled(
+            "{} updates announced, {} fresh starts",
+            &[tables::ANNOUNCED, tables::FRESH],
+        ),
+        filled("{} sends accepted again", &[tables::GIVEN_BACK]),
+        filled("{} accepted calls of each update", &[tables::OF_EACH]),
+        filled(
+            "each field of a started update broken alone {} times",
+            &[calls::BROKEN],
+        ),
+        "a byte above 1 for a truth as often".to_owned(),
+    ]
+}
+
 fn of_texts() -> Vec<String> {
     let widths = enumerated(&texts::WIDTHS, "or");
     let cut = format!("6 for a number that is a node if it is cut to {widths} bits {{}} times");
@@ -170,7 +246,10 @@ fn phrases() -> Vec<String> {
         of_logs(),
         of_steps(),
         of_large_sizes(),
+        of_updates(),
+        of_refused_updates(),
         of_calls(),
+        of_tables(),
         of_texts(),
         of_walk(),
     ]
@@ -206,6 +285,7 @@ fn sizes() -> Vec<Vec<String>> {
         row("logs, trees", &logs::ON_TREES, logs::TREE_SIZES),
         row("calls, rings", &calls::ON_RINGS, ring::MAX_NODES),
         row("calls, trees", &calls::ON_TREES, tree::MAX_NODES),
+        row("calls, tables", &tables::ON_TABLES, tables::SIZES),
     ]
 }
 
