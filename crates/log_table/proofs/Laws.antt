@@ -1,6 +1,6 @@
 -- A line that is answered, as lines of the piece. Assumes nothing.
 use Prim.Native.Nat.{_+_, _<_, _≤_, ℕ}
-use borrow.Author.Tests.{lt-leb, lt-ltb, ltb-true}
+use borrow.Author.Tests.{le-leb, le-ltb, lt-leb, lt-ltb, ltb-false, ltb-true}
 use lib.Dec.{eqb, leb, ltb}
 use lib.ListN.{drop, getD, length, length-set, set}
 use lib.Seq.{getD-set-other, getD-set-same, set-out}
@@ -10,10 +10,12 @@ use mathlib.Core.Path.{_∙_, _≡_, ap, ap₂, refl, subst, subst⁻¹, sym}
 use native.Mathlib.Decide.{decLt, ℕ-discrete}
 use native.Mathlib.Omega.{arith}
 use Rattle.first_line.specs.Meaning.{Flags}
+use Rattle.first_line.specs.Start.{seen}
 use Rattle.first_line.specs.declared.First.{First}
 use Rattle.forms.specs.Form.{line}
 use Rattle.forms.specs.Read.{Read}
 use Rattle.forms.specs.declared.RingStep.{RingStep}
+use Rattle.laws.proofs.Tests.{false-true}
 use Rattle.log_rules.proofs.Ends.{ended-long}
 use Rattle.log_rules.proofs.First.{update-verdict}
 use Rattle.log_rules.proofs.InPlace.{table-in-place, went-line, went-none, went-then}
@@ -27,13 +29,16 @@ use Rattle.refusal.specs.declared.Refusal.the-variants.{NodeCount, NotAForm, Un
 use Rattle.refusal.specs.declared.Verdict.{Verdict}
 use Rattle.refusal.specs.declared.Verdict.the-variants.{Accepted, Refused}
 use Rattle.runs.specs.Runs.{Request}
-use Rattle.table_rules.specs.Answers.{Step, TableAnswer, answerOn}
+use Rattle.table_rules.specs.Answers.{Step, TableAnswer, after, answerOn}
 use Rattle.table_rules.specs.Table.{Table, fixed}
 use Rattle.table_steps.specs.Memory.{Lent, Memory, StepDone, tableOf}
-use Rattle.update_forms.specs.Read.{wrappedAt}
+use Rattle.update_forms.specs.Read.{updateLineOf, wrappedAt, wrappedSeen}
 use Rattle.update_forms.specs.Wrapped.{Wrapped}
-use Rattle.log_table.specs.Run.{Inside, LineAnswered, Moves, StartTold, TableWent, barredTable}
+use Rattle.update_forms.specs.declared.UpdateFirst.{UpdateFirst}
+use Rattle.log_table.specs.Run.{Inside, LineAnswered, Moves, StartTold, TableWent, barredTable, isRing}
 use Rattle.log_table.specs.declared.TableRun.{TableRun}
+use Rattle.first_line.specs.Start as first
+use Rattle.update_forms.specs.declared.UpdateLine.the-variants as lines
 
 -- ---- the moves
 
@@ -84,6 +89,33 @@ barred-rows t u f h = go (ltb 96 (f .n)) refl h
     go true e p = rw (lt-leb (f .n) 96 (ltb-true 96 (f .n) e), lt-ltb 0 (f .n) (omega (arith, ltb-true 96 (f .n) e)))
     go false e p = rw p
 
+-- 13, then another number of nodes than the one that is fixed, then too few or too many, then a node that there is not
+module _ (f u n : ℕ) (h : u < 8) where
+  abbrev Other : Bool
+  Other = not (eqb f 0) && not (eqb n f)
+
+  pub barred-other : Other ≡ true → firstOf (barredTable f u n) ≡ Refused NodeCount
+  barred-other e = rw (lt-ltb u 8 h, e)
+
+  pub barred-none : Other ≡ false → n ≡ 0 → firstOf (barredTable f u n) ≡ Refused NodeCount
+  barred-none e z = rw (lt-ltb u 8 h, e, le-ltb 0 n (omega arith))
+
+  pub barred-many : Other ≡ false → 96 < n → firstOf (barredTable f u n) ≡ Refused NodeCount
+  barred-many e m = rw (lt-ltb u 8 h, e, lt-ltb 0 n (omega arith), lt-leb n 96 m)
+
+  pub barred-node : Other ≡ false → 0 < n → n ≤ 96 → firstOf (barredTable f u n) ≡ Refused UnknownNode
+  barred-node e lo hi = rw (lt-ltb u 8 h, e, lt-ltb 0 n lo, le-leb n 96 hi)
+
+pub other-from : (n : ℕ) {f g : ℕ} {b c : Bool} → f ≡ g → c ≡ (not (eqb f 0) && not (eqb n f)) → c ≡ b → (not (eqb g 0) && not (eqb n g)) ≡ b
+other-from n e p q = ap (λ (x : ℕ). not (eqb x 0) && not (eqb n x)) (sym e) ∙ sym p ∙ q
+
+pub neither : {n top : ℕ} → (ltb 96 n || ltb n top) ≡ false → (n ≤ 96) × (top ≤ n)
+neither {n} {top} h = go (ltb 96 n) refl h
+  where
+    go : (b : Bool) → ltb 96 n ≡ b → (b || ltb n top) ≡ false → (n ≤ 96) × (top ≤ n)
+    go true e p = absurd (false-true (sym p))
+    go false e p = (ltb-false 96 n e, ltb-false n top p)
+
 pub barred-told : (m : Memory) (k : ℕ) (u : ℕ) (f : First) (v : Verdict) → Lent m k → Barred f ≡ true
     → v ≡ firstOf (barredTable (fixed (tableOf m)) u (f .n)) → StartTold (tableOf m) u f v m k
 barred-told m k u f v lent h e =
@@ -100,7 +132,7 @@ start-told m m′ k k′ u f v lent g top many d =
     let e : v ≡ firstOf (updateTable (tableOf m) u f) = ap (λ (a : TableAnswer). a .verdict) (d .answer) ∙ update-verdict f g many (tableOf m) (lent .sound) u top in
     record {
       verdict = e;
-      table = ap (λ (a : TableAnswer). a .table) (d .answer) ∙ ap (λ (w : Verdict). settle w _ (tableOf m)) (update-verdict f g many (tableOf m) (lent .sound) u top ∙ sym e);
+      table = ap (λ (a : TableAnswer). a .table) (d .answer) ∙ ap (λ (w : Verdict). settle w (after (tableOf m) (updateAsk u f)) (tableOf m)) (update-verdict f g many (tableOf m) (lent .sound) u top ∙ sym e);
       lent = d .lent;
     }
 
@@ -108,8 +140,8 @@ start-told m m′ k k′ u f v lent g top many d =
 
 told-short : (t : Table) (ms : List ℕ) (k : ℕ) (said : Read Wrapped) → k ≤ lineLimit → length (tableTold t ms k said .text) ≤ answerBytes
 told-short t ms k (Read.read (Wrapped.step u f) e) h = answer-short k (answerOn t (Step u (ringRequest f)) .verdict) h
-told-short t ms k (Read.read (Wrapped.bare u n) e) h = answer-short k _ h
-told-short t ms k (Read.read (Wrapped.lists u n active black) e) h = answer-short k _ h
+told-short t ms k (Read.read (Wrapped.bare u n) e) h = answer-short k (firstOf (updateTable t u (seen (first.bare n) e))) h
+told-short t ms k (Read.read (Wrapped.lists u n active black) e) h = answer-short k (firstOf (updateTable t u (seen (first.lists n active black) e))) h
 told-short t ms k Read.other h = answer-short k (Refused NotAForm) h
 
 pub answered-went : (r t : TableRun) (m m′ : Memory) (ms ms′ piece out out′ : List ℕ) (x : Told) (e : ℕ)
@@ -160,7 +192,7 @@ pub start-answered : (r t : TableRun) (m m′ : Memory) (ms ms′ : List ℕ) (u
     → LineAnswered r t m′ ms′ (updateStartTold (tableOf m) ms (r .lines + 1) u f) (f .end) out out′
 start-answered r t m m′ ms ms′ u f out out′ v few told moves lines past wrote =
     record {
-      stage = ap₂ onTable (told .table) moves ∙ ap (λ (w : Verdict). onTable (settle w _ (tableOf m)) (settle w (set ms u 0) ms)) (told .verdict);
+      stage = ap₂ onTable (told .table) moves ∙ ap (λ (w : Verdict). onTable (settle w (after (tableOf m) (updateAsk u f)) (tableOf m)) (settle w (set ms u 0) ms)) (told .verdict);
       wrote = subst (λ (w : Verdict). Wrote out (r .at) (answerText (r .lines + 1) w) (t .at) out′) (told .verdict) wrote;
       line = lines;
       past = past;
@@ -182,6 +214,34 @@ formless-answered r t m ms end out out′ lent few sends lines past wrote =
       lent = subst (Lent m) (sym sends) lent;
       moves = subst (Moves ms) (sym lines) (later-few ms (r .lines) few);
     }
+
+-- ---- what the recognisers say of a line that says no step
+
+-- a start
+pub record Said (s : Read Wrapped) (w : UpdateFirst) : Type 0 where
+  pub form : Wrapped
+  pub read-as : s ≡ Read.read form (w .first .end)
+  pub told : (t : Table) (ms : List ℕ) (k : ℕ) → updateStartTold t ms k (w .update) (w .first) ≡ tableTold t ms k s
+
+pub start-said : (s : Read Wrapped) (w : UpdateFirst) → w ≡ wrappedSeen s → isRing (w .first .kind) ≡ true → Said s w
+start-said (Read.read (Wrapped.step u f) e) w p h = absurd (false-true (sym (ap (λ (x : UpdateFirst). isRing (x .first .kind)) p) ∙ h))
+start-said (Read.read (Wrapped.bare u n) e) w p h = record { form = Wrapped.bare u n; read-as = rw p; told = λ t ms k. rw p }
+start-said (Read.read (Wrapped.lists u n active black) e) w p h = record { form = Wrapped.lists u n active black; read-as = rw p; told = λ t ms k. rw p }
+start-said Read.other w p h = absurd (false-true (sym (ap (λ (x : UpdateFirst). isRing (x .first .kind)) p) ∙ h))
+
+-- nothing
+pub none-said : (s : Read Wrapped) (w : UpdateFirst) → w ≡ wrappedSeen s → isRing (w .first .kind) ≡ false → lines.NotAForm ≡ updateLineOf s → s ≡ Read.other
+none-said (Read.read (Wrapped.step u f) e) w p h q = absurd (let z : _≡_ {A = ℕ} 0 1 = cc in let y : ⊥ = omega arith in y)
+none-said (Read.read (Wrapped.bare u n) e) w p h q = absurd (false-true (sym h ∙ ap (λ (x : UpdateFirst). isRing (x .first .kind)) p))
+none-said (Read.read (Wrapped.lists u n active black) e) w p h q = absurd (false-true (sym h ∙ ap (λ (x : UpdateFirst). isRing (x .first .kind)) p))
+none-said Read.other w p h q = refl
+
+-- a step
+pub step-said : (s : Read Wrapped) (u : ℕ) (f : RingStep) (e : ℕ) → lines.Step u f e ≡ updateLineOf s → s ≡ Read.read (Wrapped.step u f) e
+step-said (Read.read (Wrapped.step v g) d) u f e q = cc
+step-said (Read.read (Wrapped.bare v n) d) u f e q = absurd (let z : _≡_ {A = ℕ} 0 1 = cc in let y : ⊥ = omega arith in y)
+step-said (Read.read (Wrapped.lists v n active black) d) u f e q = absurd (let z : _≡_ {A = ℕ} 0 1 = cc in let y : ⊥ = omega arith in y)
+step-said Read.other u f e q = absurd (let z : _≡_ {A = ℕ} 0 1 = cc in let y : ⊥ = omega arith in y)
 
 -- ---- some lines, and then more
 

@@ -2,10 +2,11 @@
 use Prim.Native.Nat.{_*_, _+_, _-_, _<_, _≤_, ℕ}
 use lib.Dec.{eqb, leb, ltb}
 use lib.ListN.{getD, length}
-use mathlib.Core.Bool.{_&&_, not, true}
+use mathlib.Core.Bool.{Bool, _&&_, false, not, true}
 use mathlib.Core.List.{List, [], _∷_}
 use mathlib.Core.Path.{_≡_}
 use Rattle.first_line.specs.declared.First.{First}
+use Rattle.first_line.specs.declared.FirstKind.{FirstKind}
 use Rattle.log_rules.specs.Answers.{Told, answerBytes, onTable, updateAsk, updateTable}
 use Rattle.log_rules.specs.Lines.{lineLimit}
 use Rattle.log_rules.specs.Pieces.{NoMore, Went}
@@ -19,6 +20,7 @@ use Rattle.table_steps.specs.Memory.{Lent, Memory, tableOf}
 use Rattle.update_forms.specs.Read.{updateLineOf, wrappedAt}
 use Rattle.update_forms.specs.declared.UpdateLine.the-variants.{NotAForm}
 use Rattle.log_table.specs.declared.TableRun.{TableRun}
+use Rattle.first_line.specs.declared.FirstKind.the-variants as kinds
 use Rattle.table_rules.specs.Table as rules
 
 -- the moves of the eight updates, none more than the lines that are answered
@@ -40,6 +42,12 @@ pub record StartTold (t : rules.Table) (u : ℕ) (f : First) (v : Verdict) (m′
   pub verdict : v ≡ firstOf (updateTable t u f)
   pub table : tableOf m′ ≡ settle v (after t (updateAsk u f)) t
   pub lent : Lent m′ sends
+
+-- what is read of a line is a ring's start
+abbrev pub isRing : FirstKind → Bool
+isRing kinds.Ring = true
+isRing kinds.Tree = false
+isRing kinds.NotAForm = false
 
 -- the line at `at` says no step of an update
 abbrev pub NoStep : List ℕ → ℕ → Type 0

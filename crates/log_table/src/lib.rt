@@ -29,7 +29,7 @@ ghost use Rattle.log_text.specs.Wrote.{Wrote};
 ghost use Rattle.refusal.specs.Table.{firstOf, settle};
 ghost use Rattle.table_steps.specs.Memory.{memory, Lent, tableOf};
 ghost use Rattle.table_start.specs.Fixed.{fixedIn};
-ghost use Rattle.log_table.specs.Run.{barredTable, StartTold, NoStep, Ready, LineAnswered, Inside, TableWent};
+ghost use Rattle.log_table.specs.Run.{barredTable, isRing, StartTold, NoStep, Ready, LineAnswered, Inside, TableWent};
 
 // Where a run stands: the sends of the eight, the lines answered, the index of the next line in the piece, and of the next answer in the
 // buffer.
@@ -42,7 +42,7 @@ pub struct TableRun {
 
 // d more token moves of update u.
 fn add_moves(moves: &mut [u64; UPDATES], u: usize, d: u64)
-    requires { ⌜ getD (now moves) u 0 + d < 2 ^ 64 ⌝ }
+    requires { ⌜ (length (now moves) ≡ 8) × (getD (now moves) u 0 + d < 2 ^ 64) ⌝ }
     ensures { λ _. ⌜ now (moves .exit) ≡ addAt (now (moves .entry)) u d ⌝ }
 {
     if u < UPDATES {
@@ -52,6 +52,7 @@ fn add_moves(moves: &mut [u64; UPDATES], u: usize, d: u64)
 
 // An accepted start: the moves of update u are counted afresh.
 fn clear_moves(moves: &mut [u64; UPDATES], u: usize, v: Verdict)
+    requires { ⌜ length (now moves) ≡ 8 ⌝ }
     ensures { λ _. ⌜ now (moves .exit) ≡ settle v (set (now (moves .entry)) u 0) (now (moves .entry)) ⌝ }
 {
     match v {
@@ -254,6 +255,16 @@ fn formless_line(r: TableRun, end: usize, out: &mut [u8]) -> TableRun
     }
 }
 
+fn is_ring(kind: FirstKind) -> bool
+    ensures { λ b. ⌜ b ≡ isRing kind ⌝ }
+{
+    match kind {
+        FirstKind::Ring => true,
+        FirstKind::Tree => false,
+        FirstKind::NotAForm => false,
+    }
+}
+
 // The next line, which says no step: a start, or no form; where it is not whole, nothing is done.
 fn other_line(
     r: TableRun,
@@ -283,8 +294,8 @@ fn other_line(
     let u = w.update;
     let f = w.first;
     let kind = f.kind;
-    match kind {
-        FirstKind::Ring => start_line(
+    if is_ring(kind) {
+        return start_line(
             r,
             n,
             pos,
@@ -300,15 +311,13 @@ fn other_line(
             u,
             f,
             out,
-        ),
-        _ => {
-            let end = line_end(piece, next);
-            if end == 0 {
-                return r;
-            }
-            formless_line(r, end, out)
-        }
+        );
     }
+    let end = line_end(piece, next);
+    if end == 0 {
+        return r;
+    }
+    formless_line(r, end, out)
 }
 
 // The next line, where it is whole; else nothing is done.

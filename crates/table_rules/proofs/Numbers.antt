@@ -67,8 +67,8 @@ module _ (t : Table) (ok : SoundTable t) where
   unfolding verdictOn
   unknown-start u n flags = (
     λ e.
-    let f = first-alone (not (ltb u 8)) (otherNodes t n) (not (ltb 0 n && leb n 96)) (not (flagsTest n flags)) (rw (true-table t ok) at e) in
-    omega (arith, ltb-false u 8 (not-true _ f)),
+        let f = first-alone (not (ltb u 8)) (otherNodes t n) (not (ltb 0 n && leb n 96)) (not (flagsTest n flags)) (rw (true-table t ok) at e) in
+        omega (arith, ltb-false u 8 (not-true _ f)),
     λ h. rw (true-table t ok, le-ltb u 8 (omega arith)),
   )
 
@@ -94,8 +94,8 @@ module _ (t : Table) (ok : SoundTable t) where
   start-accepted u n flags = (
     λ e. go (none-holds (rowsOf t (Start u n flags)) e),
     λ w.
-    rw (true-table t ok, lt-ltb u 8 (w .0), other-none (eqb (fixed t) 0) (eqb n (fixed t)) (⊎-elim (λ z. inl (eq-eqb _ _ z)) (λ z. inr (eq-eqb _ _ z)) (w .1)))
-    (w .2),
+        rw (true-table t ok, lt-ltb u 8 (w .0), other-none (eqb (fixed t) 0) (eqb n (fixed t)) (⊎-elim (λ z. inl (eq-eqb _ _ z)) (λ z. inr (eq-eqb _ _ z)) (w .1)))
+        (w .2),
   )
     where
       go : NoneHolds (rowsOf t (Start u n flags)) → (u < 8) × ((fixed t ≡ 0) ⊎ (n ≡ fixed t)) × (firstOf (startTable n flags) ≡ Accepted)

@@ -1,6 +1,4 @@
-use borrow.Author.Tests.{ltb-false}
-use lib.ListN.{length}
-use mathlib.Core.Path.{_≡_}
+use native.Mathlib.Omega.{arith}
 use Rattle.log_table.proofs.Laws.{added-out}
 use borrow.Author.Needs.{needs}
 use Rattle.log_table.proofs.add_moves.Statement.{statement}
@@ -27,7 +25,8 @@ returns : tie.Need-returns
 returns c = search needs
 
 returns-2 : tie.Need-returns-2
-returns-2 c = let n : length (c .before .args .moves .now) ≡ 8 = search needs in added-out (c .before .args .moves .now) (c .before .args .u) (c .before .args .d) n (ltb-false _ _ (c .if1 .left))
+returns-2 c =
+    added-out (c .before .args .moves .now) (c .before .args .u) (c .before .args .d) (c .before .pre .0) (omega (arith, c .if1 .left))
 
 pub add-moves-spec : {M : Type 1} → statement M
 add-moves-spec =

@@ -1,3 +1,8 @@
+use borrow.Author.Tests.{le-ltb}
+use native.Mathlib.Omega.{arith}
+use mathlib.Core.Path.{sym}
+use Rattle.table_start.specs.Fixed.{fixedIn}
+use Rattle.log_table.proofs.Laws.{barred-many, barred-node, barred-none, barred-other, other-from}
 use borrow.Author.Needs.{needs}
 use Rattle.log_table.proofs.barred.Statement.{statement}
 use Rattle.log_table.proofs.barred.Tie as tie
@@ -6,33 +11,34 @@ use Rattle.log_table.proofs.barred.Lts as lts
 use Rattle.table_start.proofs.fixed_of.Reads as fixed-of-reads
 use Rattle.table_start.proofs.is_other.Reads as is-other-reads
 
--- src/lib.rt:128:9
 returns : tie.Need-returns
-returns c = ?
+returns c = rw (le-ltb (c .before .args .u) 8 (c .if1 .taken))
 
--- src/lib.rt:130:17
 fixed-of-requires : tie.Need-fixed-of-requires
 fixed-of-requires c κs = search needs
 
--- src/lib.rt:130:8
 is-other-requires : tie.Need-is-other-requires
 is-other-requires c κs = search needs
 
--- src/lib.rt:131:9
 returns-2 : tie.Need-returns-2
-returns-2 c = ?
+returns-2 c =
+    let start = c .before .before .before .before in
+    sym (barred-other (fixedIn (start .args .n .now) 8) (start .args .u) (start .args .nodes) (omega (arith, c .before .before .before .if1 .left)) (other-from (start .args .nodes) (c .before .before .fixed-of .ensures) (c .before .is-other .ensures) (c .if2 .taken)))
 
--- src/lib.rt:134:9
 returns-3 : tie.Need-returns-3
-returns-3 c = ?
+returns-3 c =
+    let start = c .before .before .before .before .before in
+    sym (barred-none (fixedIn (start .args .n .now) 8) (start .args .u) (start .args .nodes) (omega (arith, c .before .before .before .before .if1 .left)) (other-from (start .args .nodes) (c .before .before .before .fixed-of .ensures) (c .before .before .is-other .ensures) (c .before .if2 .left)) (c .if3 .taken))
 
--- src/lib.rt:137:9
 returns-4 : tie.Need-returns-4
-returns-4 c = ?
+returns-4 c =
+    let start = c .before .before .before .before .before .before in
+    sym (barred-many (fixedIn (start .args .n .now) 8) (start .args .u) (start .args .nodes) (omega (arith, c .before .before .before .before .before .if1 .left)) (other-from (start .args .nodes) (c .before .before .before .before .fixed-of .ensures) (c .before .before .before .is-other .ensures) (c .before .before .if2 .left)) (c .if4 .taken))
 
--- src/lib.rt:124:1
 returns-5 : tie.Need-returns-5
-returns-5 c = ?
+returns-5 c =
+    let start = c .before .before .before .before .before .before in
+    sym (barred-node (fixedIn (start .args .n .now) 8) (start .args .u) (start .args .nodes) (omega (arith, c .before .before .before .before .before .if1 .left)) (other-from (start .args .nodes) (c .before .before .before .before .fixed-of .ensures) (c .before .before .before .is-other .ensures) (c .before .before .if2 .left)) (omega arith) (c .if4 .left))
 
 pub barred-spec : {M : Type 1} → statement M
 barred-spec =

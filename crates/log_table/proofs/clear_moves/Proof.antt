@@ -1,33 +1,32 @@
+use native.Mathlib.Omega.{arith}
+use mathlib.Core.Path.{refl}
+use Rattle.log_table.proofs.Laws.{cleared}
 use borrow.Author.Needs.{needs}
 use Rattle.log_table.proofs.clear_moves.Statement.{statement}
 use Rattle.log_table.proofs.clear_moves.Tie as tie
 use Rattle.log_table.proofs.clear_moves.Reads as reads
 use Rattle.log_table.proofs.clear_moves.Lts as lts
 
--- src/lib.rt:59:16
 enum-told : tie.Need-enum-told
 enum-told c = search needs
 
--- src/lib.rt:60:17
 mul-moves : tie.Need-mul-moves
 mul-moves c = search needs
 
--- src/lib.rt:60:17
 element-write-moves : tie.Need-element-write-moves
 element-write-moves c = search needs
 
 enum-told-2 : tie.Need-enum-told-2
 enum-told-2 c = search needs
 
--- src/lib.rt:54:1
 returns : tie.Need-returns
-returns c = ?
+returns c = rw (c .before .enum-told .given .1) refl
 
--- src/lib.rt:54:1
 returns-2 : tie.Need-returns-2
-returns-2 c = ?
+returns-2 c =
+    let start = c .before .before .before in
+    cleared (start .args .moves .now) (start .args .u) (start .args .v) (start .pre) (c .before .enum-told .given .1) (omega (arith, c .if1 .left))
 
--- src/lib.rt:54:1
 returns-3 : tie.Need-returns-3
 returns-3 c = search needs
 

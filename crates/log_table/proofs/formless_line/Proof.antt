@@ -1,3 +1,8 @@
+use native.Mathlib.Omega.{arith}
+use Prim.Native.Nat.{_+_}
+use Rattle.log_text.proofs.Texts.{answer-short}
+use Rattle.refusal.specs.declared.Refusal.the-variants.{NotAForm}
+use Rattle.refusal.specs.declared.Verdict.the-variants.{Refused}
 use borrow.Author.Needs.{needs}
 use Rattle.log_table.proofs.formless_line.Statement.{statement}
 use Rattle.log_table.proofs.formless_line.Tie as tie
@@ -5,19 +10,17 @@ use Rattle.log_table.proofs.formless_line.Reads as reads
 use Rattle.log_table.proofs.formless_line.Lts as lts
 use Rattle.log_text.proofs.put_answer.Reads as put-answer-reads
 
--- src/lib.rt:254:17
 add-lines : tie.Need-add-lines
 add-lines c = search needs
 
--- src/lib.rt:255:9
 put-answer-requires : tie.Need-put-answer-requires
-put-answer-requires c κs = ?
+put-answer-requires c κs =
+    let start = c .before .before .before in
+    omega (arith, start .pre .1, answer-short (start .args .r .lines + 1) (Refused NotAForm) (omega (arith, start .pre .0)))
 
--- src/lib.rt:249:1
 same-length : tie.Need-same-length
 same-length c = search needs
 
--- src/lib.rt:249:1
 returns : tie.Need-returns
 returns c = search needs
 

@@ -1,3 +1,8 @@
+use Prim.Native.Nat.{_+_}
+use mathlib.Core.Path.{refl}
+use native.Mathlib.Omega.{arith}
+use Rattle.log_text.proofs.Texts.{answer-short}
+use Rattle.log_table.proofs.Laws.{step-answered}
 use borrow.Author.Needs.{needs}
 use Rattle.log_table.proofs.step_line.Statement.{statement}
 use Rattle.log_table.proofs.step_line.Tie as tie
@@ -9,37 +14,40 @@ use Rattle.log_table.proofs.add_moves.Reads as add-moves-reads
 use Rattle.log_text.proofs.put_answer.Reads as put-answer-reads
 use Rattle.table_steps.proofs.step.Reads as step-reads
 
--- src/lib.rt:93:9
 request-of-requires : tie.Need-request-of-requires
 request-of-requires c κs = search needs
 
--- src/lib.rt:94:9
 step-requires : tie.Need-step-requires
 step-requires c κs = search needs
 
--- src/lib.rt:112:25
 moved-requires : tie.Need-moved-requires
 moved-requires c κs = search needs
 
--- src/lib.rt:112:5
 add-moves-requires : tie.Need-add-moves-requires
-add-moves-requires c κs = ?
+add-moves-requires c κs =
+    let start = c .before .before .before .before .before .before .before .before .before .before .before .before .before .before in
+    (start .pre .moves .places, omega (arith, start .pre .moves .few (start .args .u), start .pre .under, c .moved .ensures .1))
 
--- src/lib.rt:113:17
 add-lines : tie.Need-add-lines
 add-lines c = search needs
 
--- src/lib.rt:114:9
 put-answer-requires : tie.Need-put-answer-requires
-put-answer-requires c κs = ?
+put-answer-requires c κs =
+    let start = c .before .before .before .before .before .before .before .before .before .before .before .before .before .before .before .before .before in
+    omega (arith, start .pre .room, answer-short (start .args .r .lines + 1) (c .before .before .before .before .before .step .result .verdict) (omega (arith, start .pre .under)))
 
--- src/lib.rt:68:1
 same-length : tie.Need-same-length
 same-length c = search needs
 
--- src/lib.rt:68:1
 returns : tie.Need-returns
-returns c = ?
+returns c =
+    let at-moved = c .before .before .before .before .before .before in
+    let at-step = c .before .before .before .before .before .before .before .before in
+    let at-request-of = c .before .before .before .before .before .before .before .before .before .before .before .before .before .before .before .before .before .before in
+    let start = c .before .before .before .before .before .before .before .before .before .before .before .before .before .before .before .before .before .before .before .before in
+    step-answered _ _ _ _ _ _ (start .args .u) (start .args .f) _ _ _ (at-step .step .result .verdict) (at-request-of .request-of .result .kind) (at-request-of .request-of .result .i)
+    (at-request-of .request-of .result .j) (at-moved .moved .result) (start .pre .moves) (at-step .step .ensures)
+    (at-request-of .request-of .ensures) (at-moved .moved .ensures) (c .before .before .before .before .before .add-moves .ensures) refl refl (c .before .before .put-answer .ensures)
 
 pub step-line-spec : {M : Type 1} → statement M
 step-line-spec =

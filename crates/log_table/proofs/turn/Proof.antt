@@ -1,3 +1,9 @@
+use native.Mathlib.Omega.{arith}
+use mathlib.Core.Path.{_∙_, ap, sym}
+use Rattle.log_rules.proofs.InPlace.{table-ended}
+use Rattle.log_rules.specs.Answers.{tableTold}
+use Rattle.update_forms.specs.Read.{wrappedAt}
+use Rattle.log_table.proofs.Laws.{answered-went, step-said}
 use borrow.Author.Needs.{needs}
 use Rattle.log_table.proofs.turn.Statement.{statement}
 use Rattle.log_table.proofs.turn.Tie as tie
@@ -7,39 +13,38 @@ use Rattle.log_table.proofs.other_line.Reads as other-line-reads
 use Rattle.log_table.proofs.step_line.Reads as step-line-reads
 use Rattle.update_forms.proofs.update_step.Reads as update-step-reads
 
--- src/lib.rt:346:9
 update-step-requires : tie.Need-update-step-requires
 update-step-requires c κs = search needs
 
--- src/lib.rt:348:26
 enum-known-said : tie.Need-enum-known-said
 enum-known-said c = search needs
 
--- src/lib.rt:348:40
 step-line-requires : tie.Need-step-line-requires
-step-line-requires c κs = ?
+step-line-requires c κs =
+    let p = c .before .before .before .before .before .before .before .before .before .before .before .before .before .before .before .before .before .before .pre in
+    record { lent = p .0 .lent; moves = p .0 .moves; under = p .2; room = omega (arith, p .0 .room, p .1) }
 
--- src/lib.rt:368:13
 enum-told : tie.Need-enum-told
 enum-told c = search needs
 
--- src/lib.rt:366:33
 other-line-requires : tie.Need-other-line-requires
 other-line-requires c κs = search needs
 
--- src/lib.rt:322:1
 same-length : tie.Need-same-length
 same-length c = search needs
 
--- src/lib.rt:322:1
 returns : tie.Need-returns
-returns c = ?
+returns c =
+    let start = c .before .before .before .before .before .before .before .before .before .before .before .before .before .before .before .before .before .before .before .before .before in
+    let p = start .pre in
+    let a = start .args in
+    let q = step-said (wrappedAt (a .piece .now) (a .r .next)) _ _ _ (sym (c .before .before .before .before .before .before .before .before .before .before .before .before .before .before .before .before .said .given .1) ∙ c .before .before .before .before .before .before .before .before .before .before .before .before .before .before .before .before .before .before .update-step .ensures .0) in
+    let en = table-ended (a .piece .now) (a .r .next) _ _ q in
+    answered-went _ _ _ _ _ _ _ _ _ _ _ (ap (tableTold _ _ _) (sym q)) (en .0) (en .1) (p .0 .inside) (p .2) (c .before .before .step-line .ensures)
 
--- src/lib.rt:322:1
 same-length-2 : tie.Need-same-length-2
 same-length-2 c = search needs
 
--- src/lib.rt:322:1
 returns-2 : tie.Need-returns-2
 returns-2 c = search needs
 

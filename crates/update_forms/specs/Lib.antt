@@ -1,2 +1,0 @@
-pub mod Wrapped
-pub mod Read
