@@ -1,28 +1,26 @@
 -- No two valid forms share a line. Assumes nothing.
-use mathlib.Core.Path.{_≡_, refl, sym, ap, _∙_, subst}
+use mathlib.Core.Path.{_≡_, refl, sym, ap, _∙_}
 use mathlib.Core.Bool.{false}
-use mathlib.Core.Logic.{_⊎_, inl, inr}
-use mathlib.Core.List.{List, [], _∷_, _++_, append-assoc}
+use mathlib.Core.List.{List, _∷_, _++_, append-assoc}
 use Prim.Native.Nat.{ℕ, _+_}
-use native.Mathlib.Omega.{arith}
 use lib.ListN.{length, drop}
 use Rattle.decimal.specs.Bytes.{bytes}
 use Rattle.decimal.specs.Text.{decimal}
 use Rattle.decimal.specs.Word.{starts}
 use Rattle.forms.specs.declared.RingStep.{RingStep}
 use Rattle.forms.specs.declared.RingStep.the-variants as ring
-use Rattle.forms.specs.declared.RingLine.the-variants as ringLine
 use Rattle.forms.specs.declared.TreeStep.{TreeStep}
 use Rattle.forms.specs.declared.TreeStep.the-variants as tree
-use Rattle.forms.specs.Form.{Form, bareRing, ringWith, treeOf, send, takeOne, takeFrom, idle, probe, pass, ack, leave, announce, formText, Valid, SaysAt, ringForm, treeForm}
-use Rattle.forms.specs.Read.{Read, read, other, closedOf, oneOf, madeOf, readBy, ringAt}
+use Rattle.forms.specs.Form.{Form, bareRing, ringWith, treeOf, send, takeOne, takeFrom, idle, probe, pass, ack, leave, announce, formText, SmallForm, ringForm, treeForm}
+use Rattle.forms.specs.Read.{Read, other, closedOf, oneOf, madeOf, readBy, ringShapes}
 use Rattle.forms.proofs.Arguments.{spaced-found}
 use Rattle.forms.proofs.Lines.{form-line}
-use Rattle.forms.proofs.Steps.{ring-exact, ring-once, tree-once}
+use Rattle.forms.proofs.Reading.{no-read, Reader, line-once}
+use Rattle.forms.proofs.Steps.{ring-reader, ring-once, tree-once}
 use Rattle.first_line.specs.Start.{Start, bare, lists, tree, startForm}
-use Rattle.first_line.specs.Read.{startAt, firstAt}
+use Rattle.first_line.specs.Read.{startAt}
 use Rattle.first_line.specs.Theorems.{Grammar}
-use Rattle.first_line.proofs.Opens.{first-exact}
+use Rattle.first_line.proofs.Opens.{start-reader}
 
 -- the steps that only the tree has
 data Only : Type 0 where
@@ -39,37 +37,35 @@ abbrev onlyForm : Only → Form
 onlyForm o = treeForm (onlyTree o)
 
 -- every form is a first line, a step of the ring, or a step that only the tree has
-abbrev Sort : Form → Type 0
-Sort f = ((a : Start) × (startForm a ≡ f)) ⊎ (((a : RingStep) × (ringForm a ≡ f)) ⊎ ((a : Only) × (onlyForm a ≡ f)))
+data Sort : Form → Type 0 where
+  opens : (a : Start) → Sort (startForm a)
+  steps : (a : RingStep) → Sort (ringForm a)
+  only : (a : Only) → Sort (onlyForm a)
 
 sort-of : (f : Form) → Sort f
 unfolding onlyTree
-sort-of (bareRing n) = inl (bare n, refl)
-sort-of (ringWith n active black) = inl (lists n active black, refl)
-sort-of (treeOf n root) = inl (tree n root, refl)
-sort-of (send i j) = inr (inl (ring.Send i j, refl))
-sort-of (takeOne i) = inr (inl (ring.Take i, refl))
-sort-of (takeFrom i k) = inr (inr (takes i k, refl))
-sort-of (idle i) = inr (inl (ring.Idle i, refl))
-sort-of probe = inr (inl (ring.Probe, refl))
-sort-of (pass i) = inr (inl (ring.Pass i, refl))
-sort-of (ack i) = inr (inr (acks i, refl))
-sort-of (leave i) = inr (inr (leaves i, refl))
-sort-of announce = inr (inl (ring.Announce, refl))
+sort-of (bareRing n) = opens (bare n)
+sort-of (ringWith n active black) = opens (lists n active black)
+sort-of (treeOf n root) = opens (tree n root)
+sort-of (send i j) = steps (ring.Send i j)
+sort-of (takeOne i) = steps (ring.Take i)
+sort-of (takeFrom i k) = only (takes i k)
+sort-of (idle i) = steps (ring.Idle i)
+sort-of probe = steps ring.Probe
+sort-of (pass i) = steps (ring.Pass i)
+sort-of (ack i) = only (acks i)
+sort-of (leave i) = only (leaves i)
+sort-of announce = steps ring.Announce
 
--- a form's text, as a line of a text
-says-text : (f : Form) → Valid f → SaysAt (formText f ++ []) 0 f (0 + length (formText f))
-says-text f v = ((form-line f [], v), refl)
-
-abbrev firstIn : Form → Read Start
-firstIn f = firstAt (formText f ++ []) 0
-
-first-in : (a : Start) → Valid (startForm a) → firstIn (startForm a) ≡ read a (0 + length (formText (startForm a)))
-first-in a v = first-exact (formText (startForm a) ++ []) 0 a (0 + length (formText (startForm a))) .1 (says-text (startForm a) v)
+-- a form whose line a reader reads, and one whose line it does not
+apart : {A B : Type 0} {form : A → Form} {reader : List ℕ → ℕ → Read A} → Reader form reader
+    → (a : A) (g : Form) → SmallForm (form a) → reader (formText g) 0 ≡ other → formText (form a) ≡ formText g → B
+apart {form = form} {reader} R a g v h e =
+    no-read (sym (ap (λ (l : List ℕ). reader l 0) e ∙ h) ∙ R .found (formText (form a)) 0 a (bytes "\n") v refl)
 
 -- no step is a first line
-not-first : (f : RingStep) → firstIn (ringForm f) ≡ other
-unfolding firstAt startAt starts
+not-first : (f : RingStep) → startAt (formText (ringForm f)) 0 ≡ other
+unfolding startAt starts
 not-first (ring.Send i j) = refl
 not-first (ring.Take i) = refl
 not-first (ring.Idle i) = refl
@@ -77,64 +73,42 @@ not-first ring.Probe = refl
 not-first (ring.Pass i) = refl
 not-first ring.Announce = refl
 
-only-not-first : (f : Only) → firstIn (onlyForm f) ≡ other
-unfolding firstAt startAt starts onlyTree
+only-not-first : (f : Only) → startAt (formText (onlyForm f)) 0 ≡ other
+unfolding startAt starts onlyTree
 only-not-first (takes i k) = refl
 only-not-first (acks i) = refl
 only-not-first (leaves i) = refl
 
-apart-first : {A : Type 0} (a : Start) (g : Form) → Valid (startForm a) → firstIn g ≡ other → formText (startForm a) ≡ formText g → A
-apart-first a g v h e =
-    let x : firstIn (startForm a) ≡ other = ap (λ (l : List ℕ). firstAt (l ++ []) 0) e ∙ h in
-    let y = first-in a v in
-    let z : _≡_ {A = ℕ} 0 1 = cc in absurd (let w : ⊥ = omega arith in w)
-
 -- no step of the ring is one that only the tree has
-not-ring : (f : Only) → Valid (onlyForm f) → ringAt (formText (onlyForm f) ++ []) 0 ≡ ringLine.NotAForm
-unfolding ringAt readBy madeOf oneOf closedOf starts onlyTree
+not-ring : (f : Only) → SmallForm (onlyForm f) → readBy ringShapes (formText (onlyForm f)) 0 ≡ other
+unfolding readBy madeOf oneOf closedOf starts onlyTree
 not-ring (takes i k) v =
-    let R = decimal k ++ bytes ")\n" in
-    let s = formText (takeFrom i k) ++ [] in
-    let u = (bytes " " ++ R) ++ [] in
-    let t : drop 5 s ≡ bytes " " ++ (decimal i ++ u) = ap (λ (l : List ℕ). 32 ∷ l) (append-assoc (decimal i) (bytes " " ++ R) []) in
-    let f = spaced-found s 5 i u (v .0 .0) t refl in
-    let off : starts (bytes ")\n") (drop (5 + 1 + length (decimal i)) s) ≡ false = ap (starts (bytes ")\n")) (f .1) in
+    let R = bytes " " ++ (decimal k ++ bytes ")") in
+    let s = formText (takeFrom i k) in
+    let u = R ++ bytes "\n" in
+    let t : drop 5 s ≡ bytes " " ++ (decimal i ++ u) = ap (λ (l : List ℕ). 32 ∷ l) (append-assoc (decimal i) R (bytes "\n")) in
+    let f = spaced-found s 5 i u (v .0) t refl in
+    let off : starts (bytes ")") (drop (5 + 1 + length (decimal i)) s) ≡ false = ap (starts (bytes ")")) (f .1) in
     rw (f .0, off)
 not-ring (acks i) v = refl
 not-ring (leaves i) v = refl
 
-apart-ring : {A : Type 0} (a : RingStep) (b : Only) → Valid (ringForm a) → Valid (onlyForm b) → formText (ringForm a) ≡ formText (onlyForm b) → A
-apart-ring a b va vb e =
-    let x : ringAt (formText (ringForm a) ++ []) 0 ≡ ringLine.NotAForm = ap (λ (l : List ℕ). ringAt (l ++ []) 0) e ∙ not-ring b vb in
-    let n = 0 + length (formText (ringForm a)) in
-    let y = ring-exact (formText (ringForm a) ++ []) 0 a n .1 (says-text (ringForm a) va) in
-    let z : _≡_ {A = ℕ} 0 1 = cc in absurd (let w : ⊥ = omega arith in w)
-
-start-once : (a b : Start) → Valid (startForm a) → Valid (startForm b) → formText (startForm a) ≡ formText (startForm b) → a ≡ b
-start-once a b va vb e =
-    let x = first-in a va in
-    let y : firstIn (startForm a) ≡ read b (0 + length (formText (startForm b))) = ap (λ (l : List ℕ). firstAt (l ++ []) 0) e ∙ first-in b vb in
-    cc
-
 abbrev Once : Form → Form → Type 0
-Once f g = Valid f → Valid g → formText f ≡ formText g → f ≡ g
-
-moved : {f g x y : Form} → f ≡ x → g ≡ y → Once f g → Once x y
-moved {f} {g} {x} {y} p q h = subst (λ (z : Form). Once x z) q (subst (λ (z : Form). Once z g) p h)
+Once f g = SmallForm f → SmallForm g → formText f ≡ formText g → f ≡ g
 
 once-by : {f g : Form} → Sort f → Sort g → Once f g
-once-by (inl (a, p)) (inl (b, q)) = moved p q (λ vf vg e. ap startForm (start-once a b vf vg e))
-once-by (inl (a, p)) (inr (inl (b, q))) = moved p q (λ vf vg e. apart-first a (ringForm b) vf (not-first b) e)
-once-by (inl (a, p)) (inr (inr (b, q))) = moved p q (λ vf vg e. apart-first a (onlyForm b) vf (only-not-first b) e)
-once-by (inr (inl (a, p))) (inl (b, q)) = moved p q (λ vf vg e. apart-first b (ringForm a) vg (not-first a) (sym e))
-once-by (inr (inl (a, p))) (inr (inl (b, q))) = moved p q (λ vf vg e. ap ringForm (ring-once a b (vf .0) (vg .0) e))
-once-by (inr (inl (a, p))) (inr (inr (b, q))) = moved p q (λ vf vg e. apart-ring a b vf vg e)
-once-by (inr (inr (a, p))) (inl (b, q)) = moved p q (λ vf vg e. apart-first b (onlyForm a) vg (only-not-first a) (sym e))
-once-by (inr (inr (a, p))) (inr (inl (b, q))) = moved p q (λ vf vg e. apart-ring b a vg vf (sym e))
-once-by (inr (inr (a, p))) (inr (inr (b, q))) = moved p q (λ vf vg e. ap treeForm (tree-once (onlyTree a) (onlyTree b) (vf .0) (vg .0) e))
+once-by (opens a) (opens b) = λ vf vg e. ap startForm (line-once startForm start-reader a b vf vg e)
+once-by (opens a) (steps b) = λ vf vg e. apart start-reader a (ringForm b) vf (not-first b) e
+once-by (opens a) (only b) = λ vf vg e. apart start-reader a (onlyForm b) vf (only-not-first b) e
+once-by (steps a) (opens b) = λ vf vg e. apart start-reader b (ringForm a) vg (not-first a) (sym e)
+once-by (steps a) (steps b) = λ vf vg e. ap ringForm (ring-once a b vf vg e)
+once-by (steps a) (only b) = λ vf vg e. apart ring-reader a (onlyForm b) vf (not-ring b vg) e
+once-by (only a) (opens b) = λ vf vg e. apart start-reader b (onlyForm a) vg (only-not-first a) (sym e)
+once-by (only a) (steps b) = λ vf vg e. apart ring-reader b (onlyForm a) vg (not-ring a vf) (sym e)
+once-by (only a) (only b) = λ vf vg e. ap treeForm (tree-once (onlyTree a) (onlyTree b) vf vg e)
 
 form-once : (f g : Form) → Once f g
 form-once f g = once-by (sort-of f) (sort-of g)
 
 pub grammar : Grammar
-grammar = record { once = form-once; last = form-line }
+grammar = record { once = λ f g vf vg e. form-once f g (vf .0) (vg .0) e; last = form-line }

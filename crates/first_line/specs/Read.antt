@@ -8,11 +8,10 @@ use Rattle.decimal.specs.declared.Num.{Num}
 use Rattle.decimal.specs.declared.Num.the-variants.{Value, Wrong}
 use Rattle.decimal.specs.Bytes.{bytes}
 use Rattle.decimal.specs.Word.{starts}
-use Rattle.forms.specs.Form.{lineBytes}
-use Rattle.forms.specs.Read.{spacedOf, Read, read, other}
+use Rattle.forms.specs.Read.{spacedOf, Read, read, other, endsLine, lined}
 use Rattle.first_line.specs.declared.First.{First}
 use Rattle.first_line.specs.declared.Marks.{Marks}
-use Rattle.first_line.specs.Start.{Start, bare, lists, tree, zeros, ringFirst, noFirst, flagAll, topOf}
+use Rattle.first_line.specs.Start.{Start, bare, lists, tree, zeros, ringFirst, noFirst, flagAll, topOf, until}
 
 -- 1. a list: its nodes, and the index past them
 abbrev pub consOf : ℕ → Read (List ℕ) → Read (List ℕ)
@@ -41,7 +40,7 @@ marksOf bit flags top other = noMarks
 
 unfoldable pub afterBlack : List ℕ → ℕ → Marks → First
 afterBlack s n b =
-    cond (b .good) (cond (starts (bytes "))\n") (drop (b .at) s)) (ringFirst n (b .flags) (b .top) (b .at + 3)) noFirst) noFirst
+    cond (b .good) (cond (starts (bytes "))") (drop (b .at) s)) (ringFirst n (b .flags) (b .top) (b .at + 2)) noFirst) noFirst
 
 unfoldable pub afterActive : List ℕ → ℕ → Marks → First
 afterActive s n a =
@@ -49,9 +48,9 @@ afterActive s n a =
     (cond (starts (bytes ") (black") (drop (a .at) s)) (afterBlack s n (marksOf 2 (a .flags) (a .top) (entriesAt s (a .at + 8)))) noFirst)
     noFirst
 
--- 3. the line
+-- 3. the form
 unfoldable pub blackRead : List ℕ → ℕ → List ℕ → Read (List ℕ) → Read Start
-blackRead s n active (read black q) = cond (starts (bytes "))\n") (drop q s)) (read (lists n active black) (q + 3)) other
+blackRead s n active (read black q) = cond (starts (bytes "))") (drop q s)) (read (lists n active black) (q + 2)) other
 blackRead s n active other = other
 
 unfoldable pub activeRead : List ℕ → ℕ → Read (List ℕ) → Read Start
@@ -62,11 +61,11 @@ unfoldable pub listsAt : List ℕ → ℕ → ℕ → Read Start
 listsAt s n at = cond (starts (bytes " (active") (drop at s)) (activeRead s n (entriesAt s (at + 8))) other
 
 unfoldable pub ringAfter : List ℕ → Num → Read Start
-ringAfter s (Value n p) = cond (starts (bytes ")\n") (drop p s)) (read (bare n) (p + 2)) (listsAt s n p)
+ringAfter s (Value n p) = cond (starts (bytes ")") (drop p s)) (read (bare n) (p + 1)) (listsAt s n p)
 ringAfter s Wrong = other
 
 unfoldable pub rootAfter : List ℕ → ℕ → Num → Read Start
-rootAfter s n (Value root q) = cond (starts (bytes "))\n") (drop q s)) (read (tree n root) (q + 3)) other
+rootAfter s n (Value root q) = cond (starts (bytes "))") (drop q s)) (read (tree n root) (q + 2)) other
 rootAfter s n Wrong = other
 
 unfoldable pub treeAfter : List ℕ → Num → Read Start
@@ -78,11 +77,10 @@ startAt s at =
     cond (starts (bytes "(ring") (drop at s)) (ringAfter s (spacedOf s (at + 5)))
     (cond (starts (bytes "(tree") (drop at s)) (treeAfter s (spacedOf s (at + 5))) other)
 
--- at most `lineBytes` from index `at` on
-abbrev pub fitted : ℕ → Read Start → Read Start
-fitted at (read f e) = cond (ltb (at + lineBytes) e) other (read f e)
-fitted at other = other
+-- what the code holds of a form that was read, as a line that begins at `at`
+unfoldable pub lineFirst : List ℕ → ℕ → First → First
+lineFirst s at f = cond (endsLine s at (f .end)) (until (f .end + 1) f) noFirst
 
 -- the first line that the line of s at `at` says
 unfoldable pub firstAt : List ℕ → ℕ → Read Start
-firstAt s at = fitted at (startAt s at)
+firstAt s at = lined s at (startAt s at)

@@ -48,11 +48,15 @@ abbrev pub topOf : List ℕ → ℕ → ℕ
 topOf [] top = top
 topOf (k ∷ ks) top = topOf ks (max top (k + 1))
 
--- what the answer holds of a first line that ends before index e: "without lists it means all idle and white"
+-- what the answer holds of a form that ends before index e: "without lists it means all idle and white"
 abbrev pub seen : Start → ℕ → First
 seen (bare n) e = ringFirst n zeros 0 e
 seen (lists n active black) e = ringFirst n (flagAll 2 black (flagAll 1 active zeros)) (topOf black (topOf active 0)) e
 seen (tree n root) e = treeFirst n root e
+
+-- the same answer, that ends before index e
+abbrev pub until : ℕ → First → First
+until e r = record { kind = r .kind; n = r .n; root = r .root; flags = r .flags; top = r .top; end = e }
 
 abbrev pub seenOf : Read Start → First
 seenOf (read f e) = seen f e

@@ -1,13 +1,13 @@
 // The first line of a log: a ring with its start flags, or a tree with its root.
 use decimal::Num;
 use decimal::has;
-use forms::LINE_BYTES;
+use forms::ends_line;
 use forms::spaced;
 use refusal::RING_NODES;
 ghost use mathlib.Core.Path.{_≡_};
 ghost use Prim.Native.Nat.{max};
-ghost use Rattle.first_line.specs.Start.{noFirst, ringFirst, treeFirst, flagged, seenOf};
-ghost use Rattle.first_line.specs.Read.{noMarks, marksOf, entriesAt, afterBlack, afterActive, listsAt, ringAfter, rootAfter, treeAfter, startAt, firstAt};
+ghost use Rattle.first_line.specs.Start.{noFirst, ringFirst, treeFirst, flagged, until, seenOf};
+ghost use Rattle.first_line.specs.Read.{noMarks, marksOf, entriesAt, afterBlack, afterActive, listsAt, ringAfter, rootAfter, treeAfter, startAt, lineFirst, firstAt};
 ghost use Rattle.first_line.specs.Exact.{Opened};
 
 pub enum FirstKind {
@@ -16,8 +16,8 @@ pub enum FirstKind {
     NotAForm,
 }
 
-// What a first line says. A ring: its n nodes, a start flag for each of the first 96 (1 active, 2 black), and one more than the largest
-// node that its lists name. A tree: its n nodes and its root. `end` is the index past the line's byte 10.
+// What a first line says, or its form. A ring: its n nodes, a start flag for each of the first 96 (1 active, 2 black), and one more than the largest
+// node that its lists name. A tree: its n nodes and its root. `end` is the index past the form, or past the byte 10 of its line.
 pub struct First {
     pub kind: FirstKind,
     pub n: usize,
@@ -145,11 +145,11 @@ fn after_black(s: &[u8], n: usize, b: Marks) -> First
         return no_first();
     }
     let at = b.at;
-    if !has(s, at, b"))\n") {
+    if !has(s, at, b"))") {
         return no_first();
     }
     let flags = b.flags;
-    ring_first(n, flags, b.top, at + 3)
+    ring_first(n, flags, b.top, at + 2)
 }
 
 // After the list of active nodes.
@@ -182,8 +182,8 @@ fn ring_after(s: &[u8], m: Num) -> First
 {
     match m {
         Num::Value(n, p) => {
-            if has(s, p, b")\n") {
-                return ring_first(n, [0; RING_NODES], 0, p + 2);
+            if has(s, p, b")") {
+                return ring_first(n, [0; RING_NODES], 0, p + 1);
             }
             lists(s, n, p)
         }
@@ -197,10 +197,10 @@ fn root_after(s: &[u8], n: usize, m: Num) -> First
 {
     match m {
         Num::Value(root, q) => {
-            if !has(s, q, b"))\n") {
+            if !has(s, q, b"))") {
                 return no_first();
             }
-            tree_first(n, root, q + 3)
+            tree_first(n, root, q + 2)
         }
         Num::Wrong => no_first(),
     }
@@ -221,8 +221,8 @@ fn tree_after(s: &[u8], m: Num) -> First
     }
 }
 
-// The first line at `at`, of any length.
-fn start_at(s: &[u8], at: usize) -> First
+// The form of a first line that stands at `at`: `end` is the index past it.
+pub fn start_at(s: &[u8], at: usize) -> First
     ensures { λ r. ⌜ r ≡ seenOf (startAt (now (s .entry)) at) ⌝ }
 {
     if has(s, at, b"(ring") {
@@ -234,17 +234,42 @@ fn start_at(s: &[u8], at: usize) -> First
     no_first()
 }
 
+// The same answer, up to index e.
+pub fn until(f: First, e: usize) -> First
+    ensures { λ r. ⌜ r ≡ until e f ⌝ }
+{
+    let kind = f.kind;
+    let flags = f.flags;
+    First {
+        kind,
+        n: f.n,
+        root: f.root,
+        flags,
+        top: f.top,
+        end: e,
+    }
+}
+
+// The form f, read up to its end, as a line that begins at `at`.
+pub fn line_first(s: &[u8], at: usize, f: First) -> First
+    ensures { λ r. ⌜ r ≡ lineFirst (now (s .entry)) at f ⌝ }
+{
+    let end = f.end;
+    if !ends_line(s, at, end) {
+        return no_first();
+    }
+    until(f, end + 1)
+}
+
 // What the line at `at` says as a first line.
 pub fn read_first(s: &[u8], at: usize) -> First
     ensures { λ r. ⌜ (r ≡ seenOf (firstAt (now (s .entry)) at)) × Opened (now (s .entry)) at r ⌝ }
 {
     let f = start_at(s, at);
-    let end = f.end;
-    if LINE_BYTES < end {
-        if at < end - LINE_BYTES {
-            return no_first();
-        }
-        return f;
+    let kind = f.kind;
+    match kind {
+        FirstKind::Ring => line_first(s, at, f),
+        FirstKind::Tree => line_first(s, at, f),
+        FirstKind::NotAForm => no_first(),
     }
-    f
 }

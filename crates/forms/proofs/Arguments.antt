@@ -1,4 +1,4 @@
--- The numbers after a word, and the end of the line: found at a place exactly where their text stands. Assumes nothing.
+-- The numbers after a word, and the end of the form: found at a place exactly where their text stands. Assumes nothing.
 use mathlib.Core.Path.{_≡_, refl, sym, ap, _∙_}
 use mathlib.Core.Bool.{Bool, cond, false, true}
 use mathlib.Core.List.{List, _∷_, _++_, append-assoc}
@@ -47,7 +47,7 @@ spaced-found s at n u h p k =
 
 -- 2. the texts
 abbrev pub closing : List ℕ
-closing = bytes ")\n"
+closing = bytes ")"
 
 abbrev pub argsText : Arity → ℕ → ℕ → List ℕ
 argsText none i j = closing
@@ -72,11 +72,11 @@ Standing s at t e = (drop at s ≡ t ++ drop e s) × (e ≤ length s)
 no-args : {A : Type 0} (i j e : ℕ) → Bad ≡ Found i j e → A
 no-args i j e h = let z : _≡_ {A = ℕ} 0 1 = cc in absurd (let y : ⊥ = omega arith in y)
 
-closed-by : (s : List ℕ) (at i j : ℕ) (t : Bool) → starts closing (drop at s) ≡ t → (x y e : ℕ) → cond t (Found i j (at + 2)) Bad ≡ Found x y e
+closed-by : (s : List ℕ) (at i j : ℕ) (t : Bool) → starts closing (drop at s) ≡ t → (x y e : ℕ) → cond t (Found i j (at + 1)) Bad ≡ Found x y e
     → (i ≡ x) × (j ≡ y) × Standing s at closing e
 closed-by s at i j false q x y e h = no-args x y e h
 closed-by s at i j true q x y e h =
-    let p : at + 2 ≡ e = cc in
+    let p : at + 1 ≡ e = cc in
     let is : i ≡ x = cc in
     let js : j ≡ y = cc in
     (is, js, (word-sound s at closing q ∙ ap (λ (k : ℕ). closing ++ drop k s) p, omega (arith, word-in s at closing (omega arith) q)))
@@ -155,7 +155,7 @@ args-sound c s at i j e h =
     }
 
 -- 4. what stands there is found
-closed-found : (s : List ℕ) (at i j : ℕ) (u : List ℕ) → drop at s ≡ closing ++ u → closedOf s at i j ≡ Found i j (at + 2)
+closed-found : (s : List ℕ) (at i j : ℕ) (u : List ℕ) → drop at s ≡ closing ++ u → closedOf s at i j ≡ Found i j (at + 1)
 unfolding closedOf
 closed-found s at i j u h = rw (word-back s at closing u h)
 
@@ -166,7 +166,7 @@ args-found none s at i j u h p = rw (h .0, h .1) (closed-found s at 0 0 u p)
 args-found one s at i j u h p =
     let q : drop at s ≡ bytes " " ++ (decimal i ++ (closing ++ u)) = p ∙ ap (λ (l : List ℕ). 32 ∷ l) (append-assoc (decimal i) closing u) in
     let f = spaced-found s at i (closing ++ u) (h .0) q refl in
-    let e : at + 1 + length (decimal i) + 2 ≡ at + length (argsText one i j) = simp length-append (omega arith) in
+    let e : at + 1 + length (decimal i) + 1 ≡ at + length (argsText one i j) = simp length-append (omega arith) in
     rw (f .0, h .1) (closed-found s (at + 1 + length (decimal i)) i 0 u (f .1) ∙ ap (Found i 0) e)
 args-found two s at i j u h p =
     let v = bytes " " ++ (decimal j ++ closing) in
@@ -175,5 +175,5 @@ args-found two s at i j u h p =
     let a = at + 1 + length (decimal i) in
     let r : drop a s ≡ bytes " " ++ (decimal j ++ (closing ++ u)) = f .1 ∙ ap (λ (l : List ℕ). 32 ∷ l) (append-assoc (decimal j) closing u) in
     let g = spaced-found s a j (closing ++ u) (h .1) r refl in
-    let e : a + 1 + length (decimal j) + 2 ≡ at + length (argsText two i j) = simp length-append (omega arith) in
+    let e : a + 1 + length (decimal j) + 1 ≡ at + length (argsText two i j) = simp length-append (omega arith) in
     rw (f .0, g .0) (closed-found s (a + 1 + length (decimal j)) i j u (g .1) ∙ ap (Found i j) e)

@@ -12,7 +12,7 @@ use borrow.Author.Tests.{ne-eqb}
 use Rattle.decimal.specs.Bytes.{bytes}
 use Rattle.decimal.specs.Text.{decimal}
 use Rattle.decimal.proofs.Numbers.{Digits, decimal-digits, digit-low}
-use Rattle.forms.specs.Form.{Form, bareRing, ringWith, treeOf, send, takeOne, takeFrom, idle, probe, pass, ack, leave, announce, spacedNumbers, formText, Says, line, SaysAt}
+use Rattle.forms.specs.Form.{Form, bareRing, ringWith, treeOf, send, takeOne, takeFrom, idle, probe, pass, ack, leave, announce, spacedNumbers, written, formText, Says, line, SaysAt}
 
 line-digits : (d l : List ℕ) → Digits d → line (d ++ l) ≡ d ++ line l
 unfolding line
@@ -33,38 +33,44 @@ line-numbers (k ∷ ks) l =
     ∙ (line-decimal k (spacedNumbers ks ++ l)
     ∙ (ap (λ (t : List ℕ). decimal k ++ t) (line-numbers ks l) ∙ sym (append-assoc (decimal k) (spacedNumbers ks) (line l)))))
 
--- the line of a number and what follows
-after : (n : ℕ) (l u t : List ℕ) → line (l ++ u) ≡ t → line ((decimal n ++ l) ++ u) ≡ decimal n ++ t
-after n l u t h =
-    ap line (append-assoc (decimal n) l u) ∙ (line-decimal n (l ++ u) ∙ ap (λ (x : List ℕ). decimal n ++ x) h)
+-- no byte 10 stands in a number and what follows it, if none stands in that
+after : (n : ℕ) (l u : List ℕ) → line (l ++ u) ≡ l ++ line u → line ((decimal n ++ l) ++ u) ≡ (decimal n ++ l) ++ line u
+after n l u h =
+    ap line (append-assoc (decimal n) l u)
+    ∙ (line-decimal n (l ++ u) ∙ (ap (λ (x : List ℕ). decimal n ++ x) h ∙ sym (append-assoc (decimal n) l (line u))))
 
-after-all : (ks l u t : List ℕ) → line (l ++ u) ≡ t → line ((spacedNumbers ks ++ l) ++ u) ≡ spacedNumbers ks ++ t
-after-all ks l u t h =
-    ap line (append-assoc (spacedNumbers ks) l u) ∙ (line-numbers ks (l ++ u) ∙ ap (λ (x : List ℕ). spacedNumbers ks ++ x) h)
+after-all : (ks l u : List ℕ) → line (l ++ u) ≡ l ++ line u → line ((spacedNumbers ks ++ l) ++ u) ≡ (spacedNumbers ks ++ l) ++ line u
+after-all ks l u h =
+    ap line (append-assoc (spacedNumbers ks) l u)
+    ∙ (line-numbers ks (l ++ u) ∙ (ap (λ (x : List ℕ). spacedNumbers ks ++ x) h ∙ sym (append-assoc (spacedNumbers ks) l (line u))))
+
+written-line : (f : Form) (u : List ℕ) → line (written f ++ u) ≡ written f ++ line u
+unfolding line
+written-line (bareRing n) u = ap (λ (l : List ℕ). bytes "(ring " ++ l) (after n (bytes ")") u refl)
+written-line (ringWith n active black) u =
+    ap (λ (l : List ℕ). bytes "(ring " ++ l)
+    (after n _ u (ap (λ (l : List ℕ). bytes " (active" ++ l)
+    (after-all active _ u (ap (λ (l : List ℕ). bytes ") (black" ++ l) (after-all black (bytes "))") u refl)))))
+written-line (treeOf n root) u =
+    ap (λ (l : List ℕ). bytes "(tree " ++ l)
+    (after n _ u (ap (λ (l : List ℕ). bytes " (root " ++ l) (after root (bytes "))") u refl)))
+written-line (send i j) u =
+    ap (λ (l : List ℕ). bytes "(send " ++ l)
+    (after i _ u (ap (λ (l : List ℕ). bytes " " ++ l) (after j (bytes ")") u refl)))
+written-line (takeOne i) u = ap (λ (l : List ℕ). bytes "(take " ++ l) (after i (bytes ")") u refl)
+written-line (takeFrom i k) u =
+    ap (λ (l : List ℕ). bytes "(take " ++ l)
+    (after i _ u (ap (λ (l : List ℕ). bytes " " ++ l) (after k (bytes ")") u refl)))
+written-line (idle i) u = ap (λ (l : List ℕ). bytes "(idle " ++ l) (after i (bytes ")") u refl)
+written-line probe u = refl
+written-line (pass i) u = ap (λ (l : List ℕ). bytes "(pass " ++ l) (after i (bytes ")") u refl)
+written-line (ack i) u = ap (λ (l : List ℕ). bytes "(ack " ++ l) (after i (bytes ")") u refl)
+written-line (leave i) u = ap (λ (l : List ℕ). bytes "(leave " ++ l) (after i (bytes ")") u refl)
+written-line announce u = refl
 
 pub form-line : (f : Form) (u : List ℕ) → line (formText f ++ u) ≡ formText f
 unfolding line
-form-line (bareRing n) u = ap (λ (l : List ℕ). bytes "(ring " ++ l) (after n (bytes ")\n") u _ refl)
-form-line (ringWith n active black) u =
-    ap (λ (l : List ℕ). bytes "(ring " ++ l)
-    (after n _ u _ (ap (λ (l : List ℕ). bytes " (active" ++ l)
-    (after-all active _ u _ (ap (λ (l : List ℕ). bytes ") (black" ++ l) (after-all black (bytes "))\n") u _ refl)))))
-form-line (treeOf n root) u =
-    ap (λ (l : List ℕ). bytes "(tree " ++ l)
-    (after n _ u _ (ap (λ (l : List ℕ). bytes " (root " ++ l) (after root (bytes "))\n") u _ refl)))
-form-line (send i j) u =
-    ap (λ (l : List ℕ). bytes "(send " ++ l)
-    (after i _ u _ (ap (λ (l : List ℕ). bytes " " ++ l) (after j (bytes ")\n") u _ refl)))
-form-line (takeOne i) u = ap (λ (l : List ℕ). bytes "(take " ++ l) (after i (bytes ")\n") u _ refl)
-form-line (takeFrom i k) u =
-    ap (λ (l : List ℕ). bytes "(take " ++ l)
-    (after i _ u _ (ap (λ (l : List ℕ). bytes " " ++ l) (after k (bytes ")\n") u _ refl)))
-form-line (idle i) u = ap (λ (l : List ℕ). bytes "(idle " ++ l) (after i (bytes ")\n") u _ refl)
-form-line probe u = refl
-form-line (pass i) u = ap (λ (l : List ℕ). bytes "(pass " ++ l) (after i (bytes ")\n") u _ refl)
-form-line (ack i) u = ap (λ (l : List ℕ). bytes "(ack " ++ l) (after i (bytes ")\n") u _ refl)
-form-line (leave i) u = ap (λ (l : List ℕ). bytes "(leave " ++ l) (after i (bytes ")\n") u _ refl)
-form-line announce u = refl
+form-line f u = ap line (append-assoc (written f) (bytes "\n") u) ∙ written-line f (bytes "\n" ++ u)
 
 -- a text is its first line, and what follows
 line-by : (b : ℕ) (l : List ℕ) (t : Bool) → l ≡ line l ++ drop (length (line l)) l
@@ -77,19 +83,19 @@ unfolding line
 line-rest [] = refl
 line-rest (b ∷ l) = line-by b l (eqb b 10) (line-rest l)
 
-pub form-some : (f : Form) → 0 < length (formText f)
-form-some (bareRing n) = omega arith
-form-some (ringWith n active black) = omega arith
-form-some (treeOf n root) = omega arith
-form-some (send i j) = omega arith
-form-some (takeOne i) = omega arith
-form-some (takeFrom i k) = omega arith
-form-some (idle i) = omega arith
-form-some probe = omega arith
-form-some (pass i) = omega arith
-form-some (ack i) = omega arith
-form-some (leave i) = omega arith
-form-some announce = omega arith
+pub written-some : (f : Form) → 0 < length (written f)
+written-some (bareRing n) = omega arith
+written-some (ringWith n active black) = omega arith
+written-some (treeOf n root) = omega arith
+written-some (send i j) = omega arith
+written-some (takeOne i) = omega arith
+written-some (takeFrom i k) = omega arith
+written-some (idle i) = omega arith
+written-some probe = omega arith
+written-some (pass i) = omega arith
+written-some (ack i) = omega arith
+written-some (leave i) = omega arith
+written-some announce = omega arith
 
 -- a line that is handed over by itself
 pub says-whole : (s : List ℕ) (f : Form) → Says s f ↔ SaysAt s 0 f (length s)

@@ -7,15 +7,16 @@ use Prim.Native.Nat.{ℕ, _+_, _≤_, _<_}
 use native.Mathlib.Omega.{arith}
 use lib.ListN.{length, drop, length-append}
 use lib.Dec.{eqb}
+use Rattle.decimal.specs.Bytes.{bytes}
 use Rattle.decimal.specs.Word.{starts}
 use Rattle.decimal.proofs.Cases.{both-left, both-right, advance}
 use Rattle.decimal.proofs.Words.{word-sound, word-back}
 use Rattle.forms.specs.declared.Args.{Args}
 use Rattle.forms.specs.declared.Args.the-variants.{Found, Bad}
-use Rattle.forms.specs.Form.{Form, formText, SmallForm, Valid, Says, line, SaysAt}
-use Rattle.forms.specs.Read.{argsOf, Read, read, other, madeOf, StepShape, readBy}
+use Rattle.forms.specs.Form.{Form, written, SmallForm, lineBytes, SaysAt}
+use Rattle.forms.specs.Read.{argsOf, Read, read, other, madeOf, StepShape, readBy, lined}
 use Rattle.forms.proofs.Arguments.{argsText, SmallArgs, args-short, args-sound, args-found}
-use Rattle.forms.proofs.Lines.{form-line, form-some, line-rest}
+use Rattle.forms.proofs.Reading.{no-read, ends-short, Stood, Reader, line-exact, line-inside}
 
 -- 1. words that differ at a byte which both have
 abbrev clash : List ℕ → List ℕ → Bool
@@ -69,7 +70,7 @@ module _ {A : Type 0} (form : A → Form) where
   -- the shape spells its forms
   pub record Spells (h : StepShape A) : Type 0 where
     pub short : length (h .word) ≤ 600
-    pub spelled : (i j : ℕ) → SmallArgs (h .count) i j → formText (form (h .made i j)) ≡ h .word ++ argsText (h .count) i j
+    pub spelled : (i j : ℕ) → SmallArgs (h .count) i j → written (form (h .made i j)) ≡ h .word ++ argsText (h .count) i j
     pub fits : (i j : ℕ) → SmallArgs (h .count) i j → SmallForm (form (h .made i j))
 
   abbrev pub Spelled : List (StepShape A) → Type 0
@@ -80,15 +81,9 @@ module _ {A : Type 0} (form : A → Form) where
   spells-in here p = p .0
   spells-in (there m) p = spells-in m (p .1)
 
-  -- a form that was read
-  pub record Stood (s : List ℕ) (at : ℕ) (a : A) (e : ℕ) : Type 0 where
-    pub text : drop at s ≡ formText (form a) ++ drop e s
-    pub ends : e ≡ at + length (formText (form a))
-    pub inside : e ≤ length s
-    pub valid : Valid (form a)
-
+  -- a form that was read, of a length that a line has
   abbrev Sound : List ℕ → ℕ → Read A → Type 0
-  Sound s at (read a e) = Stood s at a e
+  Sound s at (read a e) = Stood form s at a e × (e < at + lineBytes)
   Sound s at other = Unit {0}
 
   made-sound : (h : StepShape A) → Spells h → (s : List ℕ) (at : ℕ) → drop at s ≡ h .word ++ drop (at + length (h .word)) s
@@ -99,15 +94,17 @@ module _ {A : Type 0} (form : A → Form) where
       let r = args-sound (h .count) s (at + length (h .word)) i j e q in
       let t = p .spelled i j (r .small) in
       let args = argsText (h .count) i j in
-      let long : length (formText (form (h .made i j))) ≡ length (h .word) + length args = ap length t ∙ length-append (h .word) args in
-      record {
-        text = w
-            ∙ (ap (λ (l : List ℕ). h .word ++ l) (r .text)
-            ∙ (sym (append-assoc (h .word) args (drop e s)) ∙ ap (λ (l : List ℕ). l ++ drop e s) (sym t)));
-        ends = omega (arith, r .ends, long);
-        inside = r .inside;
-        valid = (p .fits i j (r .small), omega (arith, long, p .short, args-short (h .count) i j (r .small)));
-      }
+      let small = args-short (h .count) i j (r .small) in
+      (
+        record {
+          text = w
+              ∙ (ap (λ (l : List ℕ). h .word ++ l) (r .text)
+              ∙ (sym (append-assoc (h .word) args (drop e s)) ∙ ap (λ (l : List ℕ). l ++ drop e s) (sym t)));
+          inside = r .inside;
+          small = p .fits i j (r .small);
+        },
+        omega (arith, r .ends, p .short, small),
+      )
 
   pick-sound : (s : List ℕ) (at : ℕ) (t : Bool) (a b : Read A) → (t ≡ true → Sound s at a) → Sound s at b → Sound s at (cond t a b)
   pick-sound s at true a b f g = f refl
@@ -121,8 +118,8 @@ module _ {A : Type 0} (form : A → Form) where
       (λ w. made-sound h (p .0) s at (word-sound s at (h .word) w) (argsOf (h .count) s (at + length (h .word))) refl)
       (read-sound hs (p .1) s at)
 
-  stood-by : (s : List ℕ) (at : ℕ) (r : Read A) → Sound s at r → (a : A) (e : ℕ) → r ≡ read a e → Stood s at a e
-  stood-by s at other h a e q = absurd (let z : _≡_ {A = ℕ} 0 1 = cc in let y : ⊥ = omega arith in y)
+  stood-by : (s : List ℕ) (at : ℕ) (r : Read A) → Sound s at r → (a : A) (e : ℕ) → r ≡ read a e → Sound s at (read a e)
+  stood-by s at other h a e q = no-read q
   stood-by s at (read b d) h a e q =
       let p : b ≡ a = cc in
       let x : d ≡ e = cc in
@@ -138,74 +135,57 @@ module _ {A : Type 0} (form : A → Form) where
     pub needs : SmallForm (form a) → SmallArgs (of .count) first second
 
   module _ (hs : List (StepShape A)) (spelled : Spelled hs) (differ : apart hs ≡ true) (entry : (a : A) → Entry hs a) where
-    pub table-stood : (s : List ℕ) (at : ℕ) (a : A) (e : ℕ) → readBy hs s at ≡ read a e → Stood s at a e
+    table-stood : (s : List ℕ) (at : ℕ) (a : A) (e : ℕ) → readBy hs s at ≡ read a e → Sound s at (read a e)
     table-stood s at a e h = stood-by s at (readBy hs s at) (read-sound hs spelled s at) a e h
 
-    pub table-sound : (s : List ℕ) (at : ℕ) (a : A) (e : ℕ) → readBy hs s at ≡ read a e → SaysAt s at (form a) e
-    table-sound s at a e h =
-        let r = table-stood s at a e h in
-        ((ap line (r .text) ∙ form-line (form a) (drop e s), r .valid), r .ends)
-
-    pub table-found : (s : List ℕ) (at : ℕ) (a : A) (u : List ℕ) → SmallForm (form a) → drop at s ≡ formText (form a) ++ u
-        → readBy hs s at ≡ read a (at + length (formText (form a)))
+    table-found : (s : List ℕ) (at : ℕ) (a : A) (u : List ℕ) → SmallForm (form a) → drop at s ≡ written (form a) ++ u
+        → readBy hs s at ≡ read a (at + length (written (form a)))
     table-found s at a u small p =
         let y = entry a in
         let g = y .of in
         let args = argsText (g .count) (y .first) (y .second) in
         let ok = y .needs small in
-        let t : formText (form a) ≡ g .word ++ args =
-        ap (λ (x : A). formText (form x)) (sym (y .makes)) ∙ spells-in (y .among) spelled .spelled (y .first) (y .second) ok in
+        let t : written (form a) ≡ g .word ++ args =
+        ap (λ (x : A). written (form x)) (sym (y .makes)) ∙ spells-in (y .among) spelled .spelled (y .first) (y .second) ok in
         let q : drop at s ≡ g .word ++ (args ++ u) = p ∙ (ap (λ (l : List ℕ). l ++ u) t ∙ append-assoc (g .word) args u) in
-        let long : length (formText (form a)) ≡ length (g .word) + length args = ap length t ∙ length-append (g .word) args in
-        let e : at + length (g .word) + length args ≡ at + length (formText (form a)) = omega (arith, long) in
+        let long : length (written (form a)) ≡ length (g .word) + length args = ap length t ∙ length-append (g .word) args in
+        let e : at + length (g .word) + length args ≡ at + length (written (form a)) = omega (arith, long) in
         read-found (y .among) differ s at (y .first) (y .second) u ok q
         ∙ (ap (λ (x : A). read x (at + length (g .word) + length args)) (y .makes) ∙ ap (read a) e)
 
-    pub table-whole : (s : List ℕ) (at : ℕ) (a : A) (e : ℕ) → SaysAt s at (form a) e → readBy hs s at ≡ read a e
-    table-whole s at a e ((is, (small, few)), ends) =
-        let n = length (line (drop at s)) in
-        let p : drop at s ≡ formText (form a) ++ drop n (drop at s) =
-        line-rest (drop at s) ∙ ap (λ (l : List ℕ). l ++ drop n (drop at s)) is in
-        table-found s at a (drop n (drop at s)) small p ∙ ap (read a) (sym ends)
+    pub table-reader : Reader form (readBy hs)
+    table-reader = record { stood = λ s at a e h. table-stood s at a e h .0; found = table-found }
 
-    pub table-exact : (s : List ℕ) (at : ℕ) (a : A) (e : ℕ) → (readBy hs s at ≡ read a e) ↔ SaysAt s at (form a) e
-    table-exact s at a e = (table-sound s at a e, table-whole s at a e)
-
-    -- none is read exactly if the line says none
-    none-by : (s : List ℕ) (at : ℕ) (r : Read A) → readBy hs s at ≡ r → ((a : A) → Says (line (drop at s)) (form a) → ⊥) → r ≡ other
-    none-by s at other h no-one = refl
-    none-by s at (read a e) h no-one = absurd (no-one a (table-sound s at a e h .0))
-
-    pub table-other : (s : List ℕ) (at : ℕ) → (readBy hs s at ≡ other) ↔ ((a : A) → Says (line (drop at s)) (form a) → ⊥)
-    table-other s at = (
-      λ h a says.
-          let e : readBy hs s at ≡ read a (at + length (formText (form a))) = table-whole s at a (at + length (formText (form a))) (says, refl) in
-          let z : _≡_ {A = ℕ} 0 1 = cc in omega arith,
-      none-by s at (readBy hs s at) refl,
-    )
-
-    -- no two forms of a table share a line
-    pub table-once : (a b : A) → SmallForm (form a) → SmallForm (form b) → formText (form a) ≡ formText (form b) → a ≡ b
-    table-once a b ha hb e =
-        let f : readBy hs (formText (form a) ++ []) 0 ≡ read a (0 + length (formText (form a))) = table-found (formText (form a) ++ []) 0 a [] ha refl in
-        let g : readBy hs (formText (form a) ++ []) 0 ≡ read b (0 + length (formText (form b))) =
-        table-found (formText (form a) ++ []) 0 b [] hb (ap (λ (l : List ℕ). l ++ []) e) in
-        cc
+    -- a step with its byte 10 is a line: it is not too long
+    pub table-line : (s : List ℕ) (at : ℕ) (a : A) (e : ℕ) → readBy hs s at ≡ read a e
+        → lined s at (readBy hs s at) ≡ cond (starts (bytes "\n") (drop e s)) (read a (e + 1)) other
+    unfolding lined
+    table-line s at a e h = rw (h, ends-short s at e (table-stood s at a e h .1))
 
     -- 5. the same of an answer of the code's own type, in which `step` is what was read
     module _ (L : Type 0) (answer : Read A → L) (step : A → ℕ → L) (on : (a : A) (e : ℕ) → answer (read a e) ≡ step a e)
         (back : (r : Read A) (a : A) (e : ℕ) → answer r ≡ step a e → r ≡ read a e) where
-      pub answer-exact : (s : List ℕ) (at : ℕ) (a : A) (e : ℕ) → (answer (readBy hs s at) ≡ step a e) ↔ SaysAt s at (form a) e
-      answer-exact s at a e = (λ h. table-sound s at a e (back (readBy hs s at) a e h), λ h. ap answer (table-whole s at a e h) ∙ on a e)
+      pub answer-exact : (s : List ℕ) (at : ℕ) (a : A) (e : ℕ) → (answer (lined s at (readBy hs s at)) ≡ step a e) ↔ SaysAt s at (form a) e
+      answer-exact s at a e =
+          let x = line-exact form table-reader s at a e in
+          (λ h. x .0 (back (lined s at (readBy hs s at)) a e h), λ h. ap answer (x .1 h) ∙ on a e)
 
       -- a contract, from its equation
-      pub answer-told : (s : List ℕ) (at : ℕ) (r : L) → r ≡ answer (readBy hs s at)
-          → (r ≡ answer (readBy hs s at)) × ((a : A) (e : ℕ) → (r ≡ step a e) ↔ SaysAt s at (form a) e)
+      pub answer-told : (s : List ℕ) (at : ℕ) (r : L) → r ≡ answer (lined s at (readBy hs s at))
+          → (r ≡ answer (lined s at (readBy hs s at))) × ((a : A) (e : ℕ) → (r ≡ step a e) ↔ SaysAt s at (form a) e)
       answer-told s at r h =
           (h, subst (λ (x : L). (a : A) (e : ℕ) → (x ≡ step a e) ↔ SaysAt s at (form a) e) (sym h) (answer-exact s at))
 
+      -- the answer to a line, from the step that stands in it
+      pub answer-line : (s : List ℕ) (at : ℕ) (a : A) (e : ℕ) → step a e ≡ answer (readBy hs s at)
+          → answer (lined s at (readBy hs s at)) ≡ cond (starts (bytes "\n") (drop e s)) (step a (e + 1)) (answer other)
+      answer-line s at a e h =
+          ap answer (table-line s at a e (back (readBy hs s at) a e (sym h))) ∙ pick (starts (bytes "\n") (drop e s))
+        where
+          pick : (t : Bool) → answer (cond t (read a (e + 1)) other) ≡ cond t (step a (e + 1)) (answer other)
+          pick true = on a (e + 1)
+          pick false = refl
+
       -- what was read lies inside
-      pub answer-inside : (s : List ℕ) (at : ℕ) (a : A) (e : ℕ) → answer (readBy hs s at) ≡ step a e → (at < e) × (e ≤ length s)
-      answer-inside s at a e h =
-          let r = table-stood s at a e (back (readBy hs s at) a e h) in
-          (omega (arith, r .ends, form-some (form a)), r .inside)
+      pub answer-inside : (s : List ℕ) (at : ℕ) (a : A) (e : ℕ) → answer (lined s at (readBy hs s at)) ≡ step a e → (at < e) × (e ≤ length s)
+      answer-inside s at a e h = line-inside form table-reader s at a e (back (lined s at (readBy hs s at)) a e h)

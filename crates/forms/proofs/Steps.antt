@@ -1,11 +1,13 @@
 -- The recognisers of the ring's steps and of the tree's are exact: each is a table of shapes. Assumes nothing.
-use mathlib.Core.Path.{_≡_, refl, ap}
+use mathlib.Core.Path.{_≡_, refl, sym, ap}
+use mathlib.Core.Bool.{cond}
 use mathlib.Core.Logic.{_↔_}
 use mathlib.Core.List.{List}
-use Prim.Native.Nat.{ℕ, _≤_, _<_}
+use Prim.Native.Nat.{ℕ, _+_, _≤_, _<_}
 use native.Mathlib.Omega.{arith}
 use lib.ListN.{length, drop}
 use Rattle.decimal.specs.Bytes.{bytes}
+use Rattle.decimal.specs.Word.{starts}
 use Rattle.forms.specs.declared.Args.{Args}
 use Rattle.forms.specs.declared.Args.the-variants.{Found}
 use Rattle.forms.specs.declared.RingStep.{RingStep}
@@ -17,9 +19,10 @@ use Rattle.forms.specs.declared.TreeStep.the-variants as tree
 use Rattle.forms.specs.declared.TreeLine.{TreeLine}
 use Rattle.forms.specs.declared.TreeLine.the-variants as treeLine
 use Rattle.forms.specs.Form.{formText, SmallForm, Says, line, ringForm, treeForm}
-use Rattle.forms.specs.Read.{none, one, two, Read, read, other, madeOf, shape, readBy, ringKind, ringShapes, treeKind, treeShapes, ringLineOf, treeLineOf, ringAt, treeAt}
+use Rattle.forms.specs.Read.{none, one, two, Read, read, other, madeOf, shape, readBy, ringKind, ringShapes, treeKind, treeShapes, ringLineOf, treeLineOf, lined, ringAt, treeAt}
 use Rattle.forms.specs.Exact.{RingRead, TreeRead}
-use Rattle.forms.proofs.Shapes.{here, there, Spelled, Entry, table-other, table-once, answer-exact, answer-told, answer-inside}
+use Rattle.forms.proofs.Reading.{Reader, line-other, line-once}
+use Rattle.forms.proofs.Shapes.{here, there, Spelled, Entry, table-reader, answer-exact, answer-told, answer-line, answer-inside}
 
 -- the ring
 ring-spells : Spelled ringForm ringShapes
@@ -93,6 +96,9 @@ ring-entry ring.Announce = record {
   needs = λ h. (refl, refl);
 }
 
+pub ring-reader : Reader ringForm (readBy ringShapes)
+ring-reader = table-reader ringForm ringShapes ring-spells refl ring-entry
+
 ring-back : (r : Read RingStep) (f : RingStep) (e : ℕ) → ringLineOf r ≡ ringLine.Step f e → r ≡ read f e
 ring-back (read g d) f e h = cc
 ring-back other f e h = absurd (let z : _≡_ {A = ℕ} 0 1 = cc in let y : ⊥ = omega arith in y)
@@ -110,6 +116,16 @@ pub ring-told : (s : List ℕ) (at : ℕ) (r : RingLine) → r ≡ ringAt s at �
 unfolding ringAt
 ring-told = answer-told ringForm ringShapes ring-spells refl ring-entry RingLine ringLineOf ringLine.Step (λ f e. refl) ring-back
 
+-- the answer to a line, from the step that stands in it
+pub ring-line : (s : List ℕ) (at : ℕ) (f : RingStep) (e : ℕ) → ringLine.Step f e ≡ ringLineOf (readBy ringShapes s at)
+    → ringAt s at ≡ cond (starts (bytes "\n") (drop e s)) (ringLine.Step f (e + 1)) ringLine.NotAForm
+unfolding ringAt
+ring-line = answer-line ringForm ringShapes ring-spells refl ring-entry RingLine ringLineOf ringLine.Step (λ f e. refl) ring-back
+
+pub ring-no-line : (s : List ℕ) (at : ℕ) → ringLine.NotAForm ≡ ringLineOf (readBy ringShapes s at) → ringAt s at ≡ ringLine.NotAForm
+unfolding ringAt lined
+ring-no-line s at h = rw (ring-none (readBy ringShapes s at) (sym h))
+
 -- a step that was read lies inside
 pub ring-inside : (s : List ℕ) (at : ℕ) (f : RingStep) (e : ℕ) → ringAt s at ≡ ringLine.Step f e → (at < e) × (e ≤ length s)
 unfolding ringAt
@@ -119,8 +135,8 @@ ring-inside = answer-inside ringForm ringShapes ring-spells refl ring-entry Ring
 pub ring-not : (s : List ℕ) (at : ℕ) → (ringAt s at ≡ ringLine.NotAForm) ↔ ((f : RingStep) → Says (line (drop at s)) (ringForm f) → ⊥)
 unfolding ringAt
 ring-not s at =
-    let x = table-other ringForm ringShapes ring-spells refl ring-entry s at in
-    (λ h. x .0 (ring-none (readBy ringShapes s at) h), λ h. ap ringLineOf (x .1 h))
+    let x = line-other ringForm ring-reader s at in
+    (λ h. x .0 (ring-none (lined s at (readBy ringShapes s at)) h), λ h. ap ringLineOf (x .1 h))
 
 -- the step that a word's numbers make
 pub ring-made : (kind : ℕ) {a : Args} {i j e : ℕ} {f : RingStep} → a ≡ Found i j e → f ≡ ringKind kind i j
@@ -130,7 +146,7 @@ ring-made kind h k = rw (h, k)
 
 -- no two steps share a line
 pub ring-once : (f g : RingStep) → SmallForm (ringForm f) → SmallForm (ringForm g) → formText (ringForm f) ≡ formText (ringForm g) → f ≡ g
-ring-once = table-once ringForm ringShapes ring-spells refl ring-entry
+ring-once = line-once ringForm ring-reader
 
 -- the tree
 tree-spells : Spelled treeForm treeShapes
@@ -204,6 +220,9 @@ tree-entry tree.Announce = record {
   needs = λ h. (refl, refl);
 }
 
+pub tree-reader : Reader treeForm (readBy treeShapes)
+tree-reader = table-reader treeForm treeShapes tree-spells refl tree-entry
+
 tree-back : (r : Read TreeStep) (f : TreeStep) (e : ℕ) → treeLineOf r ≡ treeLine.Step f e → r ≡ read f e
 tree-back (read g d) f e h = cc
 tree-back other f e h = absurd (let z : _≡_ {A = ℕ} 0 1 = cc in let y : ⊥ = omega arith in y)
@@ -221,6 +240,16 @@ pub tree-told : (s : List ℕ) (at : ℕ) (r : TreeLine) → r ≡ treeAt s at �
 unfolding treeAt
 tree-told = answer-told treeForm treeShapes tree-spells refl tree-entry TreeLine treeLineOf treeLine.Step (λ f e. refl) tree-back
 
+-- the answer to a line, from the step that stands in it
+pub tree-line : (s : List ℕ) (at : ℕ) (f : TreeStep) (e : ℕ) → treeLine.Step f e ≡ treeLineOf (readBy treeShapes s at)
+    → treeAt s at ≡ cond (starts (bytes "\n") (drop e s)) (treeLine.Step f (e + 1)) treeLine.NotAForm
+unfolding treeAt
+tree-line = answer-line treeForm treeShapes tree-spells refl tree-entry TreeLine treeLineOf treeLine.Step (λ f e. refl) tree-back
+
+pub tree-no-line : (s : List ℕ) (at : ℕ) → treeLine.NotAForm ≡ treeLineOf (readBy treeShapes s at) → treeAt s at ≡ treeLine.NotAForm
+unfolding treeAt lined
+tree-no-line s at h = rw (tree-none (readBy treeShapes s at) (sym h))
+
 -- a step that was read lies inside
 pub tree-inside : (s : List ℕ) (at : ℕ) (f : TreeStep) (e : ℕ) → treeAt s at ≡ treeLine.Step f e → (at < e) × (e ≤ length s)
 unfolding treeAt
@@ -230,8 +259,8 @@ tree-inside = answer-inside treeForm treeShapes tree-spells refl tree-entry Tree
 pub tree-not : (s : List ℕ) (at : ℕ) → (treeAt s at ≡ treeLine.NotAForm) ↔ ((f : TreeStep) → Says (line (drop at s)) (treeForm f) → ⊥)
 unfolding treeAt
 tree-not s at =
-    let x = table-other treeForm treeShapes tree-spells refl tree-entry s at in
-    (λ h. x .0 (tree-none (readBy treeShapes s at) h), λ h. ap treeLineOf (x .1 h))
+    let x = line-other treeForm tree-reader s at in
+    (λ h. x .0 (tree-none (lined s at (readBy treeShapes s at)) h), λ h. ap treeLineOf (x .1 h))
 
 -- the step that a word's numbers make
 pub tree-made : (kind : ℕ) {a : Args} {i j e : ℕ} {f : TreeStep} → a ≡ Found i j e → f ≡ treeKind kind i j
@@ -241,4 +270,4 @@ tree-made kind h k = rw (h, k)
 
 -- no two steps share a line
 pub tree-once : (f g : TreeStep) → SmallForm (treeForm f) → SmallForm (treeForm g) → formText (treeForm f) ≡ formText (treeForm g) → f ≡ g
-tree-once = table-once treeForm treeShapes tree-spells refl tree-entry
+tree-once = line-once treeForm tree-reader

@@ -34,21 +34,25 @@ abbrev pub spacedNumbers : List ℕ → List ℕ
 spacedNumbers [] = []
 spacedNumbers (k ∷ ks) = bytes " " ++ (decimal k ++ spacedNumbers ks)
 
+-- a form, as it is written
+abbrev pub written : Form → List ℕ
+written (bareRing n) = bytes "(ring " ++ (decimal n ++ bytes ")")
+written (ringWith n active black) =
+    bytes "(ring " ++ (decimal n ++ (bytes " (active" ++ (spacedNumbers active ++ (bytes ") (black" ++ (spacedNumbers black ++ bytes "))")))))
+written (treeOf n root) = bytes "(tree " ++ (decimal n ++ (bytes " (root " ++ (decimal root ++ bytes "))")))
+written (send i j) = bytes "(send " ++ (decimal i ++ (bytes " " ++ (decimal j ++ bytes ")")))
+written (takeOne i) = bytes "(take " ++ (decimal i ++ bytes ")")
+written (takeFrom i k) = bytes "(take " ++ (decimal i ++ (bytes " " ++ (decimal k ++ bytes ")")))
+written (idle i) = bytes "(idle " ++ (decimal i ++ bytes ")")
+written probe = bytes "(probe)"
+written (pass i) = bytes "(pass " ++ (decimal i ++ bytes ")")
+written (ack i) = bytes "(ack " ++ (decimal i ++ bytes ")")
+written (leave i) = bytes "(leave " ++ (decimal i ++ bytes ")")
+written announce = bytes "(announce)"
+
 -- "One form a line, ending in byte 10": a form's line, with its byte 10
 abbrev pub formText : Form → List ℕ
-formText (bareRing n) = bytes "(ring " ++ (decimal n ++ bytes ")\n")
-formText (ringWith n active black) =
-    bytes "(ring " ++ (decimal n ++ (bytes " (active" ++ (spacedNumbers active ++ (bytes ") (black" ++ (spacedNumbers black ++ bytes "))\n")))))
-formText (treeOf n root) = bytes "(tree " ++ (decimal n ++ (bytes " (root " ++ (decimal root ++ bytes "))\n")))
-formText (send i j) = bytes "(send " ++ (decimal i ++ (bytes " " ++ (decimal j ++ bytes ")\n")))
-formText (takeOne i) = bytes "(take " ++ (decimal i ++ bytes ")\n")
-formText (takeFrom i k) = bytes "(take " ++ (decimal i ++ (bytes " " ++ (decimal k ++ bytes ")\n")))
-formText (idle i) = bytes "(idle " ++ (decimal i ++ bytes ")\n")
-formText probe = bytes "(probe)\n"
-formText (pass i) = bytes "(pass " ++ (decimal i ++ bytes ")\n")
-formText (ack i) = bytes "(ack " ++ (decimal i ++ bytes ")\n")
-formText (leave i) = bytes "(leave " ++ (decimal i ++ bytes ")\n")
-formText announce = bytes "(announce)\n"
+formText f = written f ++ bytes "\n"
 
 -- "numbers are decimal, one to five digits"
 abbrev pub Small : ℕ → Type 0

@@ -1,14 +1,15 @@
 -- The recognisers of steps, as the code goes. What they answer is `Exact`. Assumes nothing.
-use mathlib.Core.Bool.{cond}
+use mathlib.Core.Bool.{Bool, _&&_, cond}
 use mathlib.Core.List.{List, [], _∷_}
 use Prim.Native.Nat.{ℕ, _+_}
 use lib.ListN.{length, getD, drop}
-use lib.Dec.{eqb}
+use lib.Dec.{ltb, eqb}
 use Rattle.decimal.specs.declared.Num.{Num}
 use Rattle.decimal.specs.declared.Num.the-variants.{Value, Wrong}
 use Rattle.decimal.specs.Bytes.{bytes}
 use Rattle.decimal.specs.Word.{starts}
 use Rattle.decimal.specs.Number.{shortOf}
+use Rattle.forms.specs.Form.{lineBytes}
 use Rattle.forms.specs.declared.Args.{Args}
 use Rattle.forms.specs.declared.Args.the-variants.{Found, Bad}
 use Rattle.forms.specs.declared.RingStep.{RingStep}
@@ -24,9 +25,9 @@ use Rattle.forms.specs.declared.TreeLine.the-variants as treeLine
 unfoldable pub spacedOf : List ℕ → ℕ → Num
 spacedOf s at = cond (eqb (getD s at 0) 32) (shortOf s (at + 1)) Wrong
 
--- the end of the line, after the numbers i and j
+-- the end of the form, after the numbers i and j
 unfoldable pub closedOf : List ℕ → ℕ → ℕ → ℕ → Args
-closedOf s at i j = cond (starts (bytes ")\n") (drop at s)) (Found i j (at + 2)) Bad
+closedOf s at i j = cond (starts (bytes ")") (drop at s)) (Found i j (at + 1)) Bad
 
 unfoldable pub oneOf : List ℕ → Num → Args
 oneOf s (Value i p) = closedOf s p i 0
@@ -46,13 +47,13 @@ pub data Arity : Type 0 where
   one : Arity
   two : Arity
 
--- so many numbers, and the end of the line
+-- so many numbers, and the end of the form
 abbrev pub argsOf : Arity → List ℕ → ℕ → Args
 argsOf none s at = closedOf s at 0 0
 argsOf one s at = oneOf s (spacedOf s at)
 argsOf two s at = twoOf s (spacedOf s at)
 
--- a step that was read and the index past its line, or none
+-- a form that was read and the index past it, or none
 pub data Read (A : Type 0) : Type 0 where
   read : A → ℕ → Read A
   other : Read A
@@ -124,9 +125,18 @@ abbrev pub treeLineOf : Read TreeStep → TreeLine
 treeLineOf (read f e) = treeLine.Step f e
 treeLineOf other = treeLine.NotAForm
 
+-- the line that begins at `at` ends at index e: its byte 10 stands there, and it has at most `lineBytes` with it
+unfoldable pub endsLine : List ℕ → ℕ → ℕ → Bool
+endsLine s at e = starts (bytes "\n") (drop e s) && ltb e (at + lineBytes)
+
+-- the form that was read at `at`, if it is a line, and the index past that line
+unfoldable pub lined : {A : Type 0} → List ℕ → ℕ → Read A → Read A
+lined s at (read f e) = cond (endsLine s at e) (read f (e + 1)) other
+lined s at other = other
+
 -- the answer to the line of s at `at`
 unfoldable pub ringAt : List ℕ → ℕ → RingLine
-ringAt s at = ringLineOf (readBy ringShapes s at)
+ringAt s at = ringLineOf (lined s at (readBy ringShapes s at))
 
 unfoldable pub treeAt : List ℕ → ℕ → TreeLine
-treeAt s at = treeLineOf (readBy treeShapes s at)
+treeAt s at = treeLineOf (lined s at (readBy treeShapes s at))

@@ -4,7 +4,7 @@ use decimal::byte_at;
 use decimal::has;
 use decimal::short_number;
 ghost use mathlib.Core.Path.{_≡_};
-ghost use Rattle.forms.specs.Read.{one, two, spacedOf, closedOf, secondOf, argsOf};
+ghost use Rattle.forms.specs.Read.{one, two, spacedOf, closedOf, secondOf, argsOf, endsLine};
 
 // The most bytes of a line, byte 10 with them: `lineBytes` of specs/Form.
 pub const LINE_BYTES: usize = 700;
@@ -29,7 +29,7 @@ pub enum TreeStep {
     Announce,
 }
 
-// What the line at a place says: a step, and the index past the line's byte 10.
+// What stands at a place: a step, and the index past its form, or past the byte 10 of its line.
 pub enum RingLine {
     Step(RingStep, usize),
     NotAForm,
@@ -40,7 +40,7 @@ pub enum TreeLine {
     NotAForm,
 }
 
-// The numbers after a word, 0 for those that it has not, and the index past the line's byte 10.
+// The numbers after a word, 0 for those that it has not, and the index past the form.
 pub enum Args {
     Found(usize, usize, usize),
     Bad,
@@ -56,14 +56,14 @@ pub fn spaced(s: &[u8], at: usize) -> Num
     short_number(s, at + 1)
 }
 
-// The end of a line, after the numbers i and j.
+// The end of a form, after the numbers i and j.
 pub fn closed(s: &[u8], at: usize, i: usize, j: usize) -> Args
     ensures { λ r. ⌜ r ≡ closedOf (now (s .entry)) at i j ⌝ }
 {
-    if !has(s, at, b")\n") {
+    if !has(s, at, b")") {
         return Args::Bad;
     }
-    Args::Found(i, j, at + 2)
+    Args::Found(i, j, at + 1)
 }
 
 pub fn one_number(s: &[u8], at: usize) -> Args
@@ -95,4 +95,17 @@ pub fn two_numbers(s: &[u8], at: usize) -> Args
         Num::Value(i, p) => second(s, p, i),
         Num::Wrong => Args::Bad,
     }
+}
+
+// Whether the line that begins at `at` ends at index e, with its byte 10 there.
+pub fn ends_line(s: &[u8], at: usize, e: usize) -> bool
+    ensures { λ r. ⌜ r ≡ endsLine (now (s .entry)) at e ⌝ }
+{
+    if !has(s, e, b"\n") {
+        return false;
+    }
+    if e < LINE_BYTES {
+        return true;
+    }
+    e - LINE_BYTES < at
 }

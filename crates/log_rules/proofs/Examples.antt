@@ -6,7 +6,7 @@ use Rattle.decimal.specs.Text.{decimal, digits}
 use Rattle.decimal.specs.Word.{starts}
 use Rattle.first_line.specs.Read.{entriesOf, entryOf, firstAt, listsAt, ringAfter, rootAfter, startAt, treeAfter}
 use Rattle.forms.specs.Form.{line}
-use Rattle.forms.specs.Read.{closedOf, madeOf, oneOf, readBy, ringAt, secondOf, spacedOf, treeAt, twoOf}
+use Rattle.forms.specs.Read.{closedOf, endsLine, lined, madeOf, oneOf, readBy, ringAt, secondOf, spacedOf, treeAt, twoOf}
 use Rattle.laws.specs.Sums.{countTo, sumTo}
 use Rattle.ring_rules.specs.Answers.{answerOf, verdictOf}
 use Rattle.ring_rules.specs.Rules.{conclusive, mayPass, mayProbe}
@@ -31,5 +31,5 @@ use Rattle.tree_rules.specs.Termination.{acksTotal}
 use Rattle.tree_text.specs.Text.{childrenText, listText, nodeText}
 
 pub examples-hold : ExamplesHold
-unfolding scanOf checked number.numberAt keptOf digits decimal starts line spacedOf closedOf oneOf secondOf twoOf madeOf readBy ringAt treeAt entryOf entriesOf read.activeRead read.blackRead read.afterActive read.afterBlack listsAt ringAfter rootAfter treeAfter startAt firstAt lineTold split linesTold restOf verdictOf answerOf conclusive mayProbe mayPass shapeTest rangeTest flowTest sumTest passiveAbove whiteTo gatheredTest safraTest unusedTest closedTest soundTest activeFrom colorFrom firstState inTransit blackNodes isBlack blackened whitened _⊖_ isPositive isZero isSame countTo outputs expected tree.verdictOf tree.answerOf mayLeave treeRules.conclusive sound.shapeTest sound.rangeTest engagerTest chainTest balanceTest restTest pairTest placeTest limitTest sound.closedTest sound.soundTest treeStart.firstState treeStart.startVerdict messagesFrom children climb acksTotal sumTo childrenText nodeText listText
+unfolding scanOf checked number.numberAt keptOf digits decimal starts line spacedOf closedOf oneOf secondOf twoOf madeOf readBy endsLine lined ringAt treeAt entryOf entriesOf read.activeRead read.blackRead read.afterActive read.afterBlack listsAt ringAfter rootAfter treeAfter startAt firstAt lineTold split linesTold restOf verdictOf answerOf conclusive mayProbe mayPass shapeTest rangeTest flowTest sumTest passiveAbove whiteTo gatheredTest safraTest unusedTest closedTest soundTest activeFrom colorFrom firstState inTransit blackNodes isBlack blackened whitened _⊖_ isPositive isZero isSame countTo outputs expected tree.verdictOf tree.answerOf mayLeave treeRules.conclusive sound.shapeTest sound.rangeTest engagerTest chainTest balanceTest restTest pairTest placeTest limitTest sound.closedTest sound.soundTest treeStart.firstState treeStart.startVerdict messagesFrom children climb acksTotal sumTo childrenText nodeText listText
 examples-hold = refl

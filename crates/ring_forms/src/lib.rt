@@ -8,7 +8,7 @@ use forms::one_number;
 use forms::two_numbers;
 ghost use mathlib.Core.Path.{_≡_};
 ghost use Rattle.forms.specs.Exact.{RingRead};
-ghost use Rattle.forms.specs.Read.{madeOf, ringKind, ringLineOf, ringAt};
+ghost use Rattle.forms.specs.Read.{madeOf, readBy, ringKind, ringShapes, ringLineOf, ringAt};
 
 // The ring's step of a kind number, of document 01's list.
 fn ring_kind(kind: u8, i: usize, j: usize) -> RingStep
@@ -33,9 +33,9 @@ fn ring_line(kind: u8, a: Args) -> RingLine
     }
 }
 
-// The step of the ring that the line at `at` says.
-pub fn ring_step(s: &[u8], at: usize) -> RingLine
-    ensures { λ r. ⌜ (r ≡ ringAt (now (s .entry)) at) × RingRead (now (s .entry)) at r ⌝ }
+// The step of the ring that stands at `at`, and the index past its form.
+pub fn ring_form(s: &[u8], at: usize) -> RingLine
+    ensures { λ r. ⌜ r ≡ ringLineOf (readBy ringShapes (now (s .entry)) at) ⌝ }
 {
     if has(s, at, b"(send") {
         return ring_line(1, two_numbers(s, at + 5));
@@ -56,4 +56,20 @@ pub fn ring_step(s: &[u8], at: usize) -> RingLine
         return ring_line(6, closed(s, at + 9, 0, 0));
     }
     RingLine::NotAForm
+}
+
+// The step of the ring that the line at `at` says, and the index past that line.
+pub fn ring_step(s: &[u8], at: usize) -> RingLine
+    ensures { λ r. ⌜ (r ≡ ringAt (now (s .entry)) at) × RingRead (now (s .entry)) at r ⌝ }
+{
+    let l = ring_form(s, at);
+    match l {
+        RingLine::Step(f, e) => {
+            if !has(s, e, b"\n") {
+                return RingLine::NotAForm;
+            }
+            RingLine::Step(f, e + 1)
+        }
+        RingLine::NotAForm => RingLine::NotAForm,
+    }
 }

@@ -6,7 +6,7 @@ use Rattle.decimal.specs.Number.{checked, keptOf, scanOf}
 use Rattle.decimal.specs.Text.{decimal, digits}
 use Rattle.decimal.specs.Word.{starts}
 use Rattle.first_line.specs.Read.{entriesOf, entryOf, firstAt, listsAt, ringAfter, rootAfter, startAt, treeAfter}
-use Rattle.forms.specs.Read.{closedOf, madeOf, oneOf, readBy, ringAt, secondOf, spacedOf, treeAt, twoOf}
+use Rattle.forms.specs.Read.{closedOf, endsLine, lined, madeOf, oneOf, readBy, ringAt, secondOf, spacedOf, treeAt, twoOf}
 use Rattle.laws.specs.Sums.{countTo, sumTo}
 use Rattle.log_rules.specs.Answers.{lineTold}
 use Rattle.log_rules.specs.Lines.{split}
@@ -41,5 +41,5 @@ use Rattle.tree_rules.specs.Start as treeStart
 use Rattle.tree_runs.specs.Requests as treeRequests
 
 pub refusals-pass : allPass refusals ≡ true
-unfolding refusals order outside limits passes allPass ringRequests.numbers treeRequests.numbers isBlack blackened whitened _⊖_ isPositive isZero isSame sumTo ringRules.conclusive ringSound.shapeTest ringSound.rangeTest flowTest sumTest passiveAbove whiteTo gatheredTest safraTest unusedTest ringSound.closedTest ringSound.soundTest mayProbe mayPass ring.verdictOf mayMove moveOf driveFrom driveOf activeFrom colorFrom flagsTest ringStart.firstState ringStart.blank ringStart.startOf ringStart.startVerdict countTo messagesFrom children climb treeRules.conclusive treeSound.shapeTest treeSound.rangeTest engagerTest chainTest balanceTest restTest pairTest placeTest limitTest treeSound.closedTest treeSound.soundTest mayLeave tree.verdictOf treeStart.firstState treeStart.blank treeStart.startOf treeStart.startVerdict decimal digits childrenText nodeText writeVerdict writtenOf lineTold split linesTold restOf ring.answerOf tree.answerOf inTransit blackNodes acksTotal starts scanOf checked number.numberAt keptOf spacedOf closedOf oneOf secondOf twoOf madeOf readBy ringAt treeAt entryOf entriesOf first.activeRead first.blackRead listsAt ringAfter rootAfter treeAfter startAt firstAt
+unfolding refusals order outside limits passes allPass ringRequests.numbers treeRequests.numbers isBlack blackened whitened _⊖_ isPositive isZero isSame sumTo ringRules.conclusive ringSound.shapeTest ringSound.rangeTest flowTest sumTest passiveAbove whiteTo gatheredTest safraTest unusedTest ringSound.closedTest ringSound.soundTest mayProbe mayPass ring.verdictOf mayMove moveOf driveFrom driveOf activeFrom colorFrom flagsTest ringStart.firstState ringStart.blank ringStart.startOf ringStart.startVerdict countTo messagesFrom children climb treeRules.conclusive treeSound.shapeTest treeSound.rangeTest engagerTest chainTest balanceTest restTest pairTest placeTest limitTest treeSound.closedTest treeSound.soundTest mayLeave tree.verdictOf treeStart.firstState treeStart.blank treeStart.startOf treeStart.startVerdict decimal digits childrenText nodeText writeVerdict writtenOf lineTold split linesTold restOf ring.answerOf tree.answerOf inTransit blackNodes acksTotal starts scanOf checked number.numberAt keptOf spacedOf closedOf oneOf secondOf twoOf madeOf readBy endsLine lined ringAt treeAt entryOf entriesOf first.activeRead first.blackRead listsAt ringAfter rootAfter treeAfter startAt firstAt
 refusals-pass = refl

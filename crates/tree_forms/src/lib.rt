@@ -8,7 +8,7 @@ use forms::one_number;
 use forms::two_numbers;
 ghost use mathlib.Core.Path.{_≡_};
 ghost use Rattle.forms.specs.Exact.{TreeRead};
-ghost use Rattle.forms.specs.Read.{madeOf, treeKind, treeLineOf, treeAt};
+ghost use Rattle.forms.specs.Read.{madeOf, readBy, treeKind, treeShapes, treeLineOf, treeAt};
 
 // The tree's step of a kind number, of document 01's list.
 fn tree_kind(kind: u8, i: usize, j: usize) -> TreeStep
@@ -33,9 +33,9 @@ fn tree_line(kind: u8, a: Args) -> TreeLine
     }
 }
 
-// The step of the tree that the line at `at` says.
-pub fn tree_step(s: &[u8], at: usize) -> TreeLine
-    ensures { λ r. ⌜ (r ≡ treeAt (now (s .entry)) at) × TreeRead (now (s .entry)) at r ⌝ }
+// The step of the tree that stands at `at`, and the index past its form.
+fn tree_form(s: &[u8], at: usize) -> TreeLine
+    ensures { λ r. ⌜ r ≡ treeLineOf (readBy treeShapes (now (s .entry)) at) ⌝ }
 {
     if has(s, at, b"(send") {
         return tree_line(1, two_numbers(s, at + 5));
@@ -56,4 +56,20 @@ pub fn tree_step(s: &[u8], at: usize) -> TreeLine
         return tree_line(6, closed(s, at + 9, 0, 0));
     }
     TreeLine::NotAForm
+}
+
+// The step of the tree that the line at `at` says, and the index past that line.
+pub fn tree_step(s: &[u8], at: usize) -> TreeLine
+    ensures { λ r. ⌜ (r ≡ treeAt (now (s .entry)) at) × TreeRead (now (s .entry)) at r ⌝ }
+{
+    let l = tree_form(s, at);
+    match l {
+        TreeLine::Step(f, e) => {
+            if !has(s, e, b"\n") {
+                return TreeLine::NotAForm;
+            }
+            TreeLine::Step(f, e + 1)
+        }
+        TreeLine::NotAForm => TreeLine::NotAForm,
+    }
 }

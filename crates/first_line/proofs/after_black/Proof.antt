@@ -38,7 +38,7 @@ add-ring-first c =
     let start = c .before .before .before .before .before .before .before in
     omega (
       arith,
-      word-in (start .args .s .now) (start .args .b .at) (bytes "))\n") (omega arith)
+      word-in (start .args .s .now) (start .args .b .at) (bytes "))") (omega arith)
           (sym (c .before .before .has .ensures) ∙ not-false _ (c .before .if2 .left)),
     )
 

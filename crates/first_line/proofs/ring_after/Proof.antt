@@ -21,7 +21,7 @@ add-ring-first : tie.Need-add-ring-first
 add-ring-first c =
     let at-m = c .before .before .before .before in
     let start = at-m .before .before .before in
-    omega (arith, word-in (start .args .s .now) (at-m .m .given .0 .1 .0) (bytes ")\n") (omega arith) (sym (c .before .has .ensures) ∙ c .if1 .taken))
+    omega (arith, word-in (start .args .s .now) (at-m .m .given .0 .1 .0) (bytes ")") (omega arith) (sym (c .before .has .ensures) ∙ c .if1 .taken))
 
 ring-first-requires : tie.Need-ring-first-requires
 ring-first-requires c κs = search needs

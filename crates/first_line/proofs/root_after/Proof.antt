@@ -33,7 +33,7 @@ add-tree-first c =
     let start = at-m .before .before .before in
     omega (
       arith,
-      word-in (start .args .s .now) (at-m .m .given .0 .1 .0) (bytes "))\n") (omega arith)
+      word-in (start .args .s .now) (at-m .m .given .0 .1 .0) (bytes "))") (omega arith)
           (sym (c .before .has .ensures) ∙ not-false _ (c .if1 .left)),
     )
 

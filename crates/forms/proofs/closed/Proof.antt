@@ -21,11 +21,11 @@ slice-aggregate-has c = search needs
 has-requires : tie.Need-has-requires
 has-requires c κs = search needs
 
-closed-no : (s : List ℕ) (at i j : ℕ) → starts (bytes ")\n") (drop at s) ≡ false → closedOf s at i j ≡ Bad
+closed-no : (s : List ℕ) (at i j : ℕ) → starts (bytes ")") (drop at s) ≡ false → closedOf s at i j ≡ Bad
 unfolding closedOf
 closed-no s at i j e = rw e
 
-closed-yes : (s : List ℕ) (at i j : ℕ) → starts (bytes ")\n") (drop at s) ≡ true → closedOf s at i j ≡ Found i j (at + 2)
+closed-yes : (s : List ℕ) (at i j : ℕ) → starts (bytes ")") (drop at s) ≡ true → closedOf s at i j ≡ Found i j (at + 1)
 unfolding closedOf
 closed-yes s at i j e = rw e
 
@@ -35,7 +35,7 @@ returns c = sym (closed-no _ _ _ _ (sym (c .before .has .ensures) ∙ not-true _
 add-t10 : tie.Need-add-t10
 add-t10 c =
     let start = c .before .before .before .before in
-    omega (arith, word-in (start .args .s .now) (start .args .at) (bytes ")\n") (omega arith) (sym (c .before .has .ensures) ∙ not-false _ (c .if1 .left)))
+    omega (arith, word-in (start .args .s .now) (start .args .at) (bytes ")") (omega arith) (sym (c .before .has .ensures) ∙ not-false _ (c .if1 .left)))
 
 returns-2 : tie.Need-returns-2
 returns-2 c = sym (closed-yes _ _ _ _ (sym (c .before .has .ensures) ∙ not-false _ (c .if1 .left)))
