@@ -1,9 +1,9 @@
--- The lines that document 01 shows are those of their forms. Assumes nothing.
+-- The lines that documents 01 and 02 show are those of their forms. Assumes nothing.
 use mathlib.Core.Path.{_≡_, refl}
 use mathlib.Core.List.{List, [], _∷_, map}
 use Rattle.decimal.specs.Bytes.{bytes}
 use Rattle.decimal.specs.Text.{digits, decimal}
-use Rattle.forms.specs.Form.{Form, bareRing, ringWith, treeOf, send, takeOne, takeFrom, idle, probe, pass, ack, leave, announce, formText}
+use Rattle.forms.specs.Form.{Form, bareRing, ringWith, treeOf, send, takeOne, takeFrom, idle, probe, pass, ack, leave, announce, update, formText}
 
 abbrev shown : List Form
 shown =
@@ -21,6 +21,9 @@ shown =
     ∷ leave 1
     ∷ ringWith 3 (0 ∷ 2 ∷ []) []
     ∷ send 10 99999
+    ∷ update 2 (send 0 3)
+    ∷ update 2 (bareRing 4)
+    ∷ update 7 (ringWith 4 (0 ∷ []) [])
     ∷ []
 
 pub lines-shown : map formText shown
@@ -38,6 +41,9 @@ pub lines-shown : map formText shown
     ∷ bytes "(leave 1)\n"
     ∷ bytes "(ring 3 (active 0 2) (black))\n"
     ∷ bytes "(send 10 99999)\n"
+    ∷ bytes "(update 2 (send 0 3))\n"
+    ∷ bytes "(update 2 (ring 4))\n"
+    ∷ bytes "(update 7 (ring 4 (active 0) (black)))\n"
     ∷ [])
 unfolding decimal digits
 lines-shown = refl

@@ -12,7 +12,7 @@ use borrow.Author.Tests.{ne-eqb}
 use Rattle.decimal.specs.Bytes.{bytes}
 use Rattle.decimal.specs.Text.{decimal}
 use Rattle.decimal.proofs.Numbers.{Digits, decimal-digits, digit-low}
-use Rattle.forms.specs.Form.{Form, bareRing, ringWith, treeOf, send, takeOne, takeFrom, idle, probe, pass, ack, leave, announce, spacedNumbers, written, formText, Says, line, SaysAt}
+use Rattle.forms.specs.Form.{Form, bareRing, ringWith, treeOf, send, takeOne, takeFrom, idle, probe, pass, ack, leave, announce, update, spacedNumbers, written, formText, Says, line, SaysAt}
 
 line-digits : (d l : List ℕ) → Digits d → line (d ++ l) ≡ d ++ line l
 unfolding line
@@ -67,6 +67,12 @@ written-line (pass i) u = ap (λ (l : List ℕ). bytes "(pass " ++ l) (after i (
 written-line (ack i) u = ap (λ (l : List ℕ). bytes "(ack " ++ l) (after i (bytes ")") u refl)
 written-line (leave i) u = ap (λ (l : List ℕ). bytes "(leave " ++ l) (after i (bytes ")") u refl)
 written-line announce u = refl
+written-line (update v f) u =
+    ap (λ (l : List ℕ). bytes "(update " ++ l)
+    (after v _ u
+    (ap (λ (l : List ℕ). bytes " " ++ l)
+    (ap line (append-assoc (written f) (bytes ")") u)
+    ∙ (written-line f (bytes ")" ++ u) ∙ sym (append-assoc (written f) (bytes ")") (line u))))))
 
 pub form-line : (f : Form) (u : List ℕ) → line (formText f ++ u) ≡ formText f
 unfolding line
@@ -96,6 +102,7 @@ written-some (pass i) = omega arith
 written-some (ack i) = omega arith
 written-some (leave i) = omega arith
 written-some announce = omega arith
+written-some (update u f) = omega arith
 
 -- a line that is handed over by itself
 pub says-whole : (s : List ℕ) (f : Form) → Says s f ↔ SaysAt s 0 f (length s)

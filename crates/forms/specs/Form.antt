@@ -15,6 +15,7 @@ use Rattle.forms.specs.declared.TreeStep.the-variants as tree
 
 -- "First line: `(ring 2 (active) (black 1))`, `(ring 2)` or `(tree 3 (root 0))`. A ring line has both lists or neither": the first three.
 -- "Then ring steps .. or tree steps": `takeOne` is the ring's take, `takeFrom` the tree's.
+-- Document 02, Q-1: "`(update 2 (send 0 3))`, a start `(update 2 (ring 4))`": `update` is a form inside the number of its update.
 pub data Form : Type 0 where
   bareRing : (n : ℕ) → Form
   ringWith : (n : ℕ) (active black : List ℕ) → Form
@@ -28,6 +29,7 @@ pub data Form : Type 0 where
   ack : (i : ℕ) → Form
   leave : (i : ℕ) → Form
   announce : Form
+  update : (u : ℕ) → Form → Form
 
 -- "one space between items": numbers, each after one space
 abbrev pub spacedNumbers : List ℕ → List ℕ
@@ -49,6 +51,7 @@ written (pass i) = bytes "(pass " ++ (decimal i ++ bytes ")")
 written (ack i) = bytes "(ack " ++ (decimal i ++ bytes ")")
 written (leave i) = bytes "(leave " ++ (decimal i ++ bytes ")")
 written announce = bytes "(announce)"
+written (update u f) = bytes "(update " ++ (decimal u ++ (bytes " " ++ (written f ++ bytes ")")))
 
 -- "One form a line, ending in byte 10": a form's line, with its byte 10
 abbrev pub formText : Form → List ℕ
@@ -76,6 +79,7 @@ SmallForm (pass i) = Small i
 SmallForm (ack i) = Small i
 SmallForm (leave i) = Small i
 SmallForm announce = Unit {0}
+SmallForm (update u f) = Small u × SmallForm f
 
 -- "at most 700 bytes with it" (byte 10)
 abbrev pub lineBytes : ℕ
