@@ -13,7 +13,7 @@ use Rattle.decimal.proofs.Cases.{both-left, both-right, advance}
 use Rattle.decimal.proofs.Words.{word-sound, word-back}
 use Rattle.forms.specs.declared.Args.{Args}
 use Rattle.forms.specs.declared.Args.the-variants.{Found, Bad}
-use Rattle.forms.specs.Form.{Form, written, SmallForm, lineBytes, SaysAt}
+use Rattle.forms.specs.Form.{Form, written, SmallForm, SaysAt}
 use Rattle.forms.specs.Read.{argsOf, Read, read, other, madeOf, StepShape, readBy, lined}
 use Rattle.forms.proofs.Arguments.{argsText, SmallArgs, args-short, args-sound, args-found}
 use Rattle.forms.proofs.Reading.{no-read, ends-short, Stood, Reader, line-exact, line-inside}
@@ -52,6 +52,11 @@ abbrev pub apart : {A : Type 0} → List (StepShape A) → Bool
 apart [] = true
 apart (h ∷ hs) = clashes (h .word) hs && apart hs
 
+-- each word of the table differs from another word
+abbrev pub differs : {A : Type 0} → List (StepShape A) → List ℕ → Bool
+differs [] w = true
+differs (h ∷ hs) w = clash (h .word) w && differs hs w
+
 -- 2. a form that stands there is read
 pub read-found : {A : Type 0} {h : StepShape A} {hs : List (StepShape A)} → In h hs → apart hs ≡ true
     → (s : List ℕ) (at i j : ℕ) (u : List ℕ) → SmallArgs (h .count) i j → drop at s ≡ h .word ++ (argsText (h .count) i j ++ u)
@@ -64,6 +69,20 @@ read-found {h = h} (there {g} {hs} m) e s at i j u small p =
     let c : clash (g .word) (h .word) ≡ true = clashes-in (g .word) m (both-left (clashes (g .word) hs) (apart hs) e) in
     let off : starts (g .word) (drop at s) ≡ false = ap (starts (g .word)) p ∙ clash-off (g .word) (h .word) (argsText (h .count) i j ++ u) c in
     rw off (read-found m (both-right (clashes (g .word) hs) (apart hs) e) s at i j u small p)
+
+-- more than a step has
+abbrev pub stepBytes : ℕ
+stepBytes = 614
+
+-- no shape is read where another word stands
+pub read-none : {A : Type 0} (hs : List (StepShape A)) (w : List ℕ) → differs hs w ≡ true
+    → (s : List ℕ) (at : ℕ) (u : List ℕ) → drop at s ≡ w ++ u → readBy hs s at ≡ other
+unfolding readBy
+read-none [] w e s at u p = refl
+read-none (h ∷ hs) w e s at u p =
+    let c : clash (h .word) w ≡ true = both-left (clash (h .word) w) (differs hs w) e in
+    let off : starts (h .word) (drop at s) ≡ false = ap (starts (h .word)) p ∙ clash-off (h .word) w u c in
+    rw off (read-none hs w (both-right (clash (h .word) w) (differs hs w) e) s at u p)
 
 -- 3. what is read stands there
 module _ {A : Type 0} (form : A → Form) where
@@ -81,9 +100,9 @@ module _ {A : Type 0} (form : A → Form) where
   spells-in here p = p .0
   spells-in (there m) p = spells-in m (p .1)
 
-  -- a form that was read, of a length that a line has
+  -- a form that was read, and how long it is at most
   abbrev Sound : List ℕ → ℕ → Read A → Type 0
-  Sound s at (read a e) = Stood form s at a e × (e < at + lineBytes)
+  Sound s at (read a e) = Stood form s at a e × (e ≤ at + stepBytes)
   Sound s at other = Unit {0}
 
   made-sound : (h : StepShape A) → Spells h → (s : List ℕ) (at : ℕ) → drop at s ≡ h .word ++ drop (at + length (h .word)) s
@@ -160,7 +179,10 @@ module _ {A : Type 0} (form : A → Form) where
     pub table-line : (s : List ℕ) (at : ℕ) (a : A) (e : ℕ) → readBy hs s at ≡ read a e
         → lined s at (readBy hs s at) ≡ cond (starts (bytes "\n") (drop e s)) (read a (e + 1)) other
     unfolding lined
-    table-line s at a e h = rw (h, ends-short s at e (table-stood s at a e h .1))
+    table-line s at a e h = rw (h, ends-short s at e (omega (arith, table-stood s at a e h .1)))
+
+    pub table-short : (s : List ℕ) (at : ℕ) (a : A) (e : ℕ) → readBy hs s at ≡ read a e → e ≤ at + stepBytes
+    table-short s at a e h = table-stood s at a e h .1
 
     -- 5. the same of an answer of the code's own type, in which `step` is what was read
     module _ (L : Type 0) (answer : Read A → L) (step : A → ℕ → L) (on : (a : A) (e : ℕ) → answer (read a e) ≡ step a e)

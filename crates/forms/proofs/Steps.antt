@@ -22,7 +22,7 @@ use Rattle.forms.specs.Form.{formText, SmallForm, Says, line, ringForm, 
 use Rattle.forms.specs.Read.{none, one, two, Read, read, other, madeOf, shape, readBy, ringKind, ringShapes, treeKind, treeShapes, ringLineOf, treeLineOf, lined, ringAt, treeAt}
 use Rattle.forms.specs.Exact.{RingRead, TreeRead}
 use Rattle.forms.proofs.Reading.{Reader, line-other, line-once}
-use Rattle.forms.proofs.Shapes.{here, there, Spelled, Entry, table-reader, answer-exact, answer-told, answer-line, answer-inside}
+use Rattle.forms.proofs.Shapes.{here, there, Spelled, Entry, stepBytes, table-reader, table-short, answer-exact, answer-told, answer-line, answer-inside}
 
 -- the ring
 ring-spells : Spelled ringForm ringShapes
@@ -125,6 +125,9 @@ ring-line = answer-line ringForm ringShapes ring-spells refl ring-entry RingLine
 pub ring-no-line : (s : List ℕ) (at : ℕ) → ringLine.NotAForm ≡ ringLineOf (readBy ringShapes s at) → ringAt s at ≡ ringLine.NotAForm
 unfolding ringAt lined
 ring-no-line s at h = rw (ring-none (readBy ringShapes s at) (sym h))
+
+pub ring-short : (s : List ℕ) (at : ℕ) (f : RingStep) (e : ℕ) → readBy ringShapes s at ≡ read f e → e ≤ at + stepBytes
+ring-short = table-short ringForm ringShapes ring-spells refl ring-entry
 
 -- a step that was read lies inside
 pub ring-inside : (s : List ℕ) (at : ℕ) (f : RingStep) (e : ℕ) → ringAt s at ≡ ringLine.Step f e → (at < e) × (e ≤ length s)
