@@ -1,0 +1,3 @@
+pub mod Opens
+pub mod Exact
+pub mod Held

@@ -1,0 +1,3 @@
+pub mod Wrapped
+pub mod Read
+pub mod Exact
