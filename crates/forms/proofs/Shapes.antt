@@ -113,8 +113,7 @@ module _ {A : Type 0} (form : A → Form) where
       let r = args-sound (h .count) s (at + length (h .word)) i j e q in
       let t = p .spelled i j (r .small) in
       let args = argsText (h .count) i j in
-      let small = args-short (h .count) i j (r .small) in
-      (
+      let small = args-short (h .count) i j (r .small) in (
         record {
           text = w
               ∙ (ap (λ (l : List ℕ). h .word ++ l) (r .text)

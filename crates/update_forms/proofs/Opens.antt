@@ -73,8 +73,7 @@ opened-found s at u l small e =
     let n = bytes " " ++ (decimal u ++ (bytes " " ++ l)) in
     let f = spaced-found s (at + 7) u (bytes " " ++ l) small (advance s (bytes "(update") n at e) refl in
     let q = at + 7 + 1 + length (decimal u) in
-    let past : q + 1 ≡ at + 9 + length (decimal u) = omega arith in
-    (
+    let past : q + 1 ≡ at + 9 + length (decimal u) = omega arith in (
       rw (word-back s at (bytes "(update") n e, f .0, word-back s q (bytes " ") l (f .1)) (ap (Value u) past),
       ap (λ (k : ℕ). drop k s) (sym past) ∙ advance s (bytes " ") l q (f .1),
     )
