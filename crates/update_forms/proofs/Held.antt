@@ -1,8 +1,9 @@
 -- What the code holds of a wrapped line is what is read of it. Assumes nothing.
 use mathlib.Core.Path.{_≡_, refl, sym, ap, _∙_, subst}
 use mathlib.Core.Bool.{_&&_, Bool, cond, false, true}
+use mathlib.Core.Logic.{_⊎_, inl, inr}
 use mathlib.Core.List.{List, [], _∷_, _++_}
-use Prim.Native.Nat.{ℕ, _+_, _<_}
+use Prim.Native.Nat.{ℕ, _+_, _≤_, _<_}
 use native.Mathlib.Omega.{arith}
 use lib.ListN.{length, drop}
 use lib.Dec.{eqb}
@@ -16,6 +17,7 @@ use Rattle.forms.specs.Form.{lineBytes}
 use Rattle.forms.specs.Read.{Read, read, other, readBy, ringShapes, ringLineOf, endsLine, lined}
 use Rattle.forms.proofs.Reading.{no-read, ends-short}
 use Rattle.forms.proofs.Steps.{ring-short}
+use Rattle.first_line.specs.declared.FirstKind.the-variants.{Ring}
 use Rattle.first_line.specs.Start.{Start, seenOf}
 use Rattle.first_line.specs.Start as start
 use Rattle.first_line.specs.Read.{startAt}
@@ -28,7 +30,7 @@ use Rattle.update_forms.specs.Wrapped.{Wrapped, step, bare, lists}
 use Rattle.update_forms.specs.Read.{openedOf, innerOf, closedRead, insideAt, updateAt, wrappedAt, stepIn, updateLineOf, noStart, startIn, wrappedSeen}
 use Rattle.update_forms.specs.Exact.{UpdateRead}
 use Rattle.update_forms.proofs.Opens.{Opened, opened-sound, ring-alone}
-use Rattle.update_forms.proofs.Exact.{wrapped-exact}
+use Rattle.update_forms.proofs.Exact.{wrapped-exact, wrapped-inside}
 
 -- 1. what is held of a form that was read inside, up to the end of the line
 module _ {B : Type 0} (g : Read Wrapped → B) (s : List ℕ) (at : ℕ) (w : Wrapped) (e : ℕ) where
@@ -112,6 +114,10 @@ pub update-told : (s : List ℕ) (at : ℕ) (r : UpdateLine) → r ≡ updateLin
     → (r ≡ updateLineOf (wrappedAt s at)) × UpdateRead s at r
 update-told s at r h = (h, subst (UpdateRead s at) (sym h) (update-exact s at))
 
+-- a step that was read lies inside
+pub update-inside : (s : List ℕ) (at u : ℕ) (f : RingStep) (e : ℕ) → updateLineOf (wrappedAt s at) ≡ Step u f e → (at < e) × (e ≤ length s)
+update-inside s at u f e h = wrapped-inside s at (step u f) e (line-back (wrappedAt s at) u f e h)
+
 -- 3. a start
 start-by : (s : List ℕ) (at u p : ℕ) (r : Read RingStep) → readBy ringShapes s p ≡ r → (x : Read Start) → startAt s p ≡ x
     → wrappedSeen (lined s at (closedRead s (innerOf u r x))) ≡ startIn s at u (seenOf x .kind) (seenOf x)
@@ -135,6 +141,20 @@ start-held s at u p h = rw h (sym (start-by s at u p (readBy ringShapes s p) ref
 pub no-start-held : (s : List ℕ) (at : ℕ) → openedOf s at ≡ Wrong → noStart ≡ wrappedSeen (wrappedAt s at)
 unfolding wrappedAt updateAt insideAt lined
 no-start-held s at h = rw h
+
+-- a start that was read lies inside, and starts a ring: every other answer is `noStart`
+pub start-inside : (s : List ℕ) (at : ℕ)
+    → (wrappedSeen (wrappedAt s at) ≡ noStart)
+    ⊎ ((wrappedSeen (wrappedAt s at) .first .kind ≡ Ring) × (at < wrappedSeen (wrappedAt s at) .first .end)
+    × (wrappedSeen (wrappedAt s at) .first .end ≤ length s))
+start-inside s at = go (wrappedAt s at) refl
+  where
+    go : (r : Read Wrapped) → wrappedAt s at ≡ r
+        → (wrappedSeen r ≡ noStart) ⊎ ((wrappedSeen r .first .kind ≡ Ring) × (at < wrappedSeen r .first .end) × (wrappedSeen r .first .end ≤ length s))
+    go other h = inl refl
+    go (read (step u f) e) h = inl refl
+    go (read (bare u n) e) h = let x = wrapped-inside s at (bare u n) e h in inr (refl, x .0, x .1)
+    go (read (lists u n active black) e) h = let x = wrapped-inside s at (lists u n active black) e h in inr (refl, x .0, x .1)
 
 -- the start flags that a wrapped line gives
 pub wrapped-flags : (s : List ℕ) (at : ℕ) → Flags (wrappedSeen (wrappedAt s at) .first .flags)
