@@ -13,6 +13,8 @@ use Rattle.first_line.specs.Start.{startForm}
 use Rattle.forms.proofs.Lines.{line-rest}
 use Rattle.forms.proofs.Steps.{ring-not, tree-not}
 use Rattle.forms.specs.Form.{Form, Says, line, lineBytes, ringForm, treeForm}
+use Rattle.update_forms.proofs.Exact.{wrapped-other}
+use Rattle.update_forms.specs.Wrapped.{wrappedForm}
 use Rattle.log_rules.proofs.Ends.{ended-append, ended-itself, form-ended, line-ended, no-line, not-both, unended-append, unended-line}
 use Rattle.log_rules.specs.Answers.{Stage, Told, endText, fresh, lineTold, onRing, onTable, onTree, over}
 use Rattle.log_rules.specs.Lines.{lineLimit, split}
@@ -101,10 +103,10 @@ Formless l = (f : Form) → Says (line l) f → ⊥
 
 formless-told : (st : Stage) (k : ℕ) (l : List ℕ) → Formless l → lineTold st k l ≡ notTold st k
 unfolding lineTold
-formless-told fresh k l h = rw (first-other l 0 .1 (λ f. h (startForm f)))
+formless-told fresh k l h = rw (first-other l 0 .1 (λ f. h (startForm f)), wrapped-other l 0 .1 (λ w. h (wrappedForm w)))
 formless-told (onRing r m) k l h = rw (ring-not l 0 .1 (λ f. h (ringForm f)))
 formless-told (onTree t) k l h = rw (tree-not l 0 .1 (λ f. h (treeForm f)))
-formless-told (onTable t ms) k l h = refl
+formless-told (onTable t ms) k l h = rw (wrapped-other l 0 .1 (λ w. h (wrappedForm w)))
 formless-told over k l h = refl
 
 -- "A line that is too long .. is one line, refused with 10"

@@ -12,7 +12,7 @@ use Rattle.decimal.specs.Text.{put}
 use Rattle.forms.proofs.Lines.{line-rest}
 use Rattle.forms.proofs.Steps.{ring-exact, ring-not, tree-exact, tree-not}
 use Rattle.forms.specs.Form.{Form, SaysAt, formText, line, ringForm, treeForm}
-use Rattle.forms.specs.Read.{read, ringAt, treeAt}
+use Rattle.forms.specs.Read.{Read, other, read, ringAt, treeAt}
 use Rattle.forms.specs.declared.RingLine.{RingLine}
 use Rattle.forms.specs.declared.RingStep.{RingStep}
 use Rattle.forms.specs.declared.TreeLine.{TreeLine}
@@ -24,8 +24,9 @@ use Rattle.log_rules.specs.Lines.{lineLimit}
 use Rattle.log_rules.specs.Output.{restOf}
 use Rattle.log_rules.specs.Pieces.{OneLine, Went}
 use Rattle.table_rules.specs.Table.{Table}
+use Rattle.update_forms.proofs.Exact.{wrapped-exact, wrapped-other}
 use Rattle.update_forms.specs.Read.{wrappedAt}
-use Rattle.update_forms.specs.Wrapped.{Wrapped}
+use Rattle.update_forms.specs.Wrapped.{Wrapped, bare, lists, step, wrappedForm}
 use Rattle.ring_rules.specs.State as ring
 use Rattle.tree_rules.specs.State as tree
 use Rattle.forms.specs.declared.RingLine.the-variants as ringLine
@@ -55,9 +56,23 @@ tree-in-place t k s at = go (treeAt s at) refl
     go treeLine.NotAForm p =
         rw (tree-not (line (drop at s)) 0 .1 (λ f h. tree-not s at .0 p f (sym (line-twice (drop at s)) ∙ h .0, h .1)))
 
+-- where a wrapped line ends has no part in its answer
+pub same-told : (t : Table) (ms : List ℕ) (k : ℕ) (w : Wrapped) (e e′ : ℕ) → tableTold t ms k (read w e) ≡ tableTold t ms k (read w e′)
+same-told t ms k (step u f) e e′ = refl
+same-told t ms k (bare u n) e e′ = refl
+same-told t ms k (lists u n active black) e e′ = refl
+
 pub table-in-place : (t : Table) (ms : List ℕ) (k : ℕ) (s : List ℕ) (at : ℕ) → tableTold t ms k (wrappedAt s at) ≡ lineTold (onTable t ms) k (line (drop at s))
 unfolding lineTold
-table-in-place t ms k s at = refl
+table-in-place t ms k s at = go (wrappedAt s at) refl
+  where
+    go : (x : Read Wrapped) → wrappedAt s at ≡ x → tableTold t ms k x ≡ tableTold t ms k (wrappedAt (line (drop at s)) 0)
+    go (read w e) p =
+        let q = wrapped-exact s at w e .0 p in
+        rw (wrapped-exact (line (drop at s)) 0 w (0 + length (formText (wrappedForm w))) .1 ((line-twice (drop at s) ∙ q .0 .0, q .0 .1), refl))
+        (same-told t ms k w e (0 + length (formText (wrappedForm w))))
+    go other p =
+        rw (wrapped-other (line (drop at s)) 0 .1 (λ w h. wrapped-other s at .0 p w (sym (line-twice (drop at s)) ∙ h .0, h .1)))
 
 -- a step that was read is a whole line, and ends where its line ends
 says-ended : (s : List ℕ) (at : ℕ) (f : Form) (e : ℕ) → SaysAt s at f e → OneLine (line (drop at s)) × (e ≡ at + length (line (drop at s)))
@@ -76,7 +91,7 @@ tree-ended s at f e p = says-ended s at (treeForm f) e (tree-exact s at f e .0 p
 
 pub table-ended :
     (s : List ℕ) (at : ℕ) (w : Wrapped) (e : ℕ) → wrappedAt s at ≡ read w e → OneLine (line (drop at s)) × (e ≡ at + length (line (drop at s)))
-table-ended s at w e p = absurd (let z : _≡_ {A = ℕ} 0 1 = cc in let y : ⊥ = omega arith in y)
+table-ended s at w e p = says-ended s at (wrappedForm w) e (wrapped-exact s at w e .0 p)
 
 -- ---- lines of a piece
 

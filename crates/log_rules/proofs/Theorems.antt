@@ -8,15 +8,20 @@ use mathlib.Core.Bool.{Bool, cond, false, true}
 use mathlib.Core.List.{List, [], _++_, _∷_, append-assoc, append-nil}
 use mathlib.Core.Path.{_∙_, _≡_, ap, refl, subst, sym}
 use native.Mathlib.Omega.{arith}
+use Rattle.first_line.proofs.Once.{grammar}
 use Rattle.first_line.proofs.Opens.{first-exact, first-other}
+use Rattle.first_line.specs.Read.{firstAt}
 use Rattle.first_line.specs.Start.{Start, seen, startForm}
 use Rattle.forms.proofs.Steps.{ring-exact, ring-not, tree-exact, tree-not}
 use Rattle.forms.specs.Form.{Form, Says, formText, line, ringForm, treeForm}
-use Rattle.forms.specs.Read.{Read}
-use Rattle.update_forms.specs.Wrapped.{Wrapped}
+use Rattle.forms.specs.Read.{Read, other, read}
+use Rattle.update_forms.proofs.Exact.{wrapped-exact, wrapped-other}
+use Rattle.update_forms.specs.Read.{wrappedAt}
+use Rattle.update_forms.specs.Wrapped.{Wrapped, bare, lists, step, wrappedForm}
 use Rattle.log_rules.proofs.Cuts.{long-told, split-take, unended-told}
 use Rattle.log_rules.proofs.Ends.{ended-append, ended-itself, ended-long, form-ended, unended-append}
-use Rattle.log_rules.specs.Answers.{firstTold, fresh, freshTold, lineTold}
+use Rattle.log_rules.proofs.InPlace.{same-told}
+use Rattle.log_rules.specs.Answers.{firstTold, fresh, freshTold, lineTold, updateFirst}
 use Rattle.log_rules.specs.Lines.{lineLimit, split}
 use Rattle.log_rules.specs.Output.{linesTold, restOf}
 use Rattle.log_rules.specs.Pieces.{OneLine, PartLine, empty, newline}
@@ -36,15 +41,46 @@ seen-told (Start.bare n) e w = refl
 seen-told (Start.lists n active black) e w = refl
 seen-told (Start.tree n root) e w = refl
 
+first-end : (w : Wrapped) (e : ℕ) → updateFirst (read w e) ≡ updateFirst (read w 0)
+first-end (step u f) e = refl
+first-end (bare u n) e = refl
+first-end (lists u n active black) e = refl
+
+-- no start of a ring or a tree shares a line with a wrapped form
+not-wrapped : (f : Start) (w : Wrapped) → startForm f ≡ wrappedForm w → ⊥
+not-wrapped (Start.bare n) w p = let z : _≡_ {A = ℕ} 0 1 = cc in let y : ⊥ = omega arith in y
+not-wrapped (Start.lists n active black) w p = let z : _≡_ {A = ℕ} 0 1 = cc in let y : ⊥ = omega arith in y
+not-wrapped (Start.tree n root) w p = let z : _≡_ {A = ℕ} 0 1 = cc in let y : ⊥ = omega arith in y
+
+pub start-or-wrapped : (l : List ℕ) (f : Start) (w : Wrapped) → Says l (startForm f) → Says l (wrappedForm w) → ⊥
+start-or-wrapped l f w s t = not-wrapped f w (grammar .once (startForm f) (wrappedForm w) (s .1) (t .1) (sym (s .0) ∙ t .0))
+
+first-wrapped : (l : List ℕ) (w : Wrapped) → Says (line l) (wrappedForm w) → firstAt l 0 ≡ other
+first-wrapped l w t = first-other l 0 .1 (λ f s. start-or-wrapped (line l) f w s t)
+
+past : Wrapped → ℕ
+past w = 0 + length (formText (wrappedForm w))
+
+wrapped-read : (l : List ℕ) (w : Wrapped) → Says (line l) (wrappedForm w) → wrappedAt l 0 ≡ read w (past w)
+unfolding past
+wrapped-read l w t = wrapped-exact l 0 w (past w) .1 (t, refl)
+
 pub lines-say : LinesSay
 unfolding lineTold
 lines-say = record {
   first = λ k l f s. rw (first-exact l 0 f (0 + length (formText (startForm f))) .1 (says-first (startForm f) l s, refl)) (seen-told f _ _);
-  first-other = λ k l o h. rw (first-other l 0 .1 (λ f s. h f (says-itself (startForm f) l o s)));
+  first-update = λ k l w s. let t = says-first (wrappedForm w) l s in rw (first-wrapped l w t, wrapped-read l w t) (first-end w (past w));
+  first-other = λ k l o h g.
+      rw (
+        first-other l 0 .1 (λ f s. h f (says-itself (startForm f) l o s)),
+        wrapped-other l 0 .1 (λ w s. g w (says-itself (wrappedForm w) l o s)),
+      );
   ring-step = λ r m k l f s. rw (ring-exact l 0 f (0 + length (formText (ringForm f))) .1 (says-first (ringForm f) l s, refl));
   ring-other = λ r m k l o h. rw (ring-not l 0 .1 (λ f s. h f (says-itself (ringForm f) l o s)));
   tree-step = λ t k l f s. rw (tree-exact l 0 f (0 + length (formText (treeForm f))) .1 (says-first (treeForm f) l s, refl));
   tree-other = λ t k l o h. rw (tree-not l 0 .1 (λ f s. h f (says-itself (treeForm f) l o s)));
+  update-line = λ t ms k l w s. rw (wrapped-read l w (says-first (wrappedForm w) l s)) (same-told t ms k w (past w) 0);
+  update-other = λ t ms k l o h. rw (wrapped-other l 0 .1 (λ w s. h w (says-itself (wrappedForm w) l o s)));
   too-long = λ s k l o h. long-told s k l (ended-itself o) h;
   unended = λ s k l u. unended-told s k u;
   after = λ k l. refl;

@@ -8,12 +8,15 @@ use mathlib.Core.List.{List, [], _++_, _∷_}
 use mathlib.Core.Path.{_≡_}
 use Rattle.first_line.specs.Start.{Start, seen, startForm}
 use Rattle.forms.specs.Form.{Says, lineBytes, ringForm, treeForm}
+use Rattle.forms.specs.Read.{read}
 use Rattle.forms.specs.declared.RingStep.{RingStep}
 use Rattle.forms.specs.declared.TreeStep.{TreeStep}
-use Rattle.log_rules.specs.Answers.{Stage, firstTold, fresh, lineTold, onRing, onTree, over, ringStepTold, treeStepTold}
+use Rattle.log_rules.specs.Answers.{Stage, firstTold, fresh, lineTold, onRing, onTable, onTree, over, ringStepTold, tableTold, treeStepTold, updateFirst}
 use Rattle.log_rules.specs.Lines.{linesOf, split}
 use Rattle.log_rules.specs.Output.{linesTold, outputOf}
 use Rattle.log_rules.specs.Pieces.{OneLine, PartLine, notTold}
+use Rattle.table_rules.specs.Table.{Table}
+use Rattle.update_forms.specs.Wrapped.{Wrapped, wrappedForm}
 use Rattle.ring_rules.specs.State as ring
 use Rattle.tree_rules.specs.State as tree
 
@@ -21,7 +24,10 @@ use Rattle.tree_rules.specs.State as tree
 -- nothing.
 pub record LinesSay : Type 0 where
   pub first : (k : ℕ) (l : List ℕ) (f : Start) → Says l (startForm f) → lineTold fresh k l ≡ firstTold (seen f 0 .kind) (seen f 0)
-  pub first-other : (k : ℕ) (l : List ℕ) → OneLine l → ((f : Start) → Says l (startForm f) → ⊥) → lineTold fresh k l ≡ notTold fresh k
+  pub first-update : (k : ℕ) (l : List ℕ) (w : Wrapped) → Says l (wrappedForm w) → lineTold fresh k l ≡ updateFirst (read w 0)
+  pub first-other :
+      (k : ℕ) (l : List ℕ) → OneLine l → ((f : Start) → Says l (startForm f) → ⊥) → ((w : Wrapped) → Says l (wrappedForm w) → ⊥)
+      → lineTold fresh k l ≡ notTold fresh k
   pub ring-step :
       (r : ring.State) (m k : ℕ) (l : List ℕ) (f : RingStep) → Says l (ringForm f) → lineTold (onRing r m) k l ≡ ringStepTold r m k f
   pub ring-other :
@@ -32,6 +38,11 @@ pub record LinesSay : Type 0 where
   pub tree-other :
       (t : tree.State) (k : ℕ) (l : List ℕ) → OneLine l → ((f : TreeStep) → Says l (treeForm f) → ⊥)
       → lineTold (onTree t) k l ≡ notTold (onTree t) k
+  pub update-line :
+      (t : Table) (ms : List ℕ) (k : ℕ) (l : List ℕ) (w : Wrapped) → Says l (wrappedForm w) → lineTold (onTable t ms) k l ≡ tableTold t ms k (read w 0)
+  pub update-other :
+      (t : Table) (ms : List ℕ) (k : ℕ) (l : List ℕ) → OneLine l → ((w : Wrapped) → Says l (wrappedForm w) → ⊥)
+      → lineTold (onTable t ms) k l ≡ notTold (onTable t ms) k
   -- "A line that is too long or lacks its byte 10 is one line, refused with 10."
   pub too-long : (s : Stage) (k : ℕ) (l : List ℕ) → OneLine l → lineBytes < length l → lineTold s k l ≡ notTold s k
   pub unended : (s : Stage) (k : ℕ) (l : List ℕ) → PartLine l → lineTold s k l ≡ notTold s k
