@@ -1,6 +1,6 @@
--- Logs and their outputs, worked by hand from document 01. proofs/Examples.antt computes them over the definitions.
+-- Logs and their outputs, worked by hand from documents 01 and 02. proofs/Examples.antt computes them over the definitions.
 use Prim.Native.Nat.{ℕ}
-use mathlib.Core.List.{List, [], _∷_}
+use mathlib.Core.List.{List, [], _++_, _∷_}
 use mathlib.Core.Path.{_≡_}
 use Rattle.decimal.specs.Bytes.{bytes}
 use Rattle.log_rules.specs.Output.{outputOf}
@@ -35,6 +35,28 @@ examples =
     ∷ record { log = bytes "(ring 2)\r\n(probe)\r\n"; output = bytes "(no 1 10)\n" }
     ∷ record { log = bytes "(ring 2)"; output = bytes "(no 1 10)\n" }
     ∷ record { log = []; output = bytes "(no 1 10)\n" }
+    -- three updates interleaved: another N, an update that is not started, a bare step; update 2 is started afresh after two token moves, and a
+    -- start that is refused leaves it; 9 and 8 are no updates; update 0 is announced; a bare start
+    ∷ record {
+      log =
+          bytes "(update 2 (ring 2 (active) (black 1)))\n(update 0 (ring 3))\n(update 0 (ring 2))\n(update 2 (probe))\n(probe)\n(update 0 (probe))\n(update 1 (probe))\n(update 2 (pass 1))\n"
+          ++ bytes "(update 0 (pass 1))\n(update 0 (announce))\n(update 2 (ring 2 (active 0) (black)))\n(update 2 (send 0 1))\n(update 2 (ring 2 (active 2) (black)))\n"
+          ++ bytes "(update 9 (ring 3))\n(update 8 (probe))\n(update 0 (probe))\n(ring 2)\n";
+      output =
+          bytes "(ok 1)\n(no 2 1)\n(ok 3)\n(ok 4)\n(no 5 10)\n(ok 6)\n(no 7 13)\n(ok 8)\n(ok 9)\n(ok 10)\n(ok 11)\n(ok 12)\n(no 13 6)\n(no 14 13)\n(no 15 13)\n(no 16 4)\n(no 17 10)\n"
+          ++ bytes "(update 0 (end (boards 2) (holder 0) (moves 2) (flight 0) (black 0)))\n(update 2 (end (boards 2) (holder 0) (moves 0) (flight 1) (black 0)))\n";
+    }
+    -- wrapped lines in a bare log
+    ∷ record {
+      log = bytes "(ring 2)\n(update 0 (ring 2))\n(update 0 (probe))\n(probe)\n";
+      output = bytes "(ok 1)\n(no 2 10)\n(no 3 10)\n(ok 4)\n(end (boards 2) (holder 1) (moves 1) (flight 0) (black 0))\n";
+    }
+    -- a wrapped first line that is refused: 13 before 1, 1 before 6; a step and a tree are no start
+    ∷ record { log = bytes "(update 8 (ring 97))\n(update 0 (ring 2))\n"; output = bytes "(no 1 13)\n" }
+    ∷ record { log = bytes "(update 7 (ring 97 (active 98) (black)))\n(update 0 (ring 2))\n"; output = bytes "(no 1 1)\n" }
+    ∷ record { log = bytes "(update 7 (ring 2 (active) (black 2)))\n(update 0 (ring 2))\n"; output = bytes "(no 1 6)\n" }
+    ∷ record { log = bytes "(update 0 (send 0 1))\n(update 0 (ring 2))\n"; output = bytes "(no 1 10)\n" }
+    ∷ record { log = bytes "(update 0 (tree 2 (root 0)))\n(update 0 (ring 2))\n"; output = bytes "(no 1 10)\n" }
     ∷ []
 
 unfoldable pub outputs : List Example → List (List ℕ)
