@@ -28,7 +28,9 @@ enum-told : tie.Need-enum-told
 enum-told c = search needs
 
 other-line-requires : tie.Need-other-line-requires
-other-line-requires c κs = search needs
+other-line-requires c κs =
+    let p = c .before .before .before .before .before .before .before .before .before .before .before .before .before .before .before .before .before .pre in
+    (p .0, p .1, p .2, sym (c .before .before .before .before .before .before .before .before .before .before .before .before .enum-told .given .1) ∙ c .before .before .before .before .before .before .before .before .before .before .before .before .before .before .update-step .ensures .0)
 
 same-length : tie.Need-same-length
 same-length c = search needs
