@@ -1,5 +1,6 @@
 pub mod Ring
 pub mod Tree
+pub mod Table
 pub mod Sound
 pub mod Calls
 pub mod Theorems
