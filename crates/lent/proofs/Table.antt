@@ -177,8 +177,8 @@ module _ (m : LentTable) (a : Ask) (s : TableAnswer) (p : s ≡ answerOn (tableI
     table-accepted {after} r e h =
         let w = taken (tableIn m) a accepted in
         let own : slotAt (s .table) (names a) ≡ slotAfter (slotAt (tableIn m) (names a)) a = ap (λ (x : TableAnswer). slotAt (x .table) (names a)) p
-            ∙ next-own (tableIn m) a
-            ∙ ap (λ (x : Verdict). settle x (slotAfter (slotAt (tableIn m) (names a)) a) (slotAt (tableIn m) (names a))) accepted in
+        ∙ next-own (tableIn m) a
+        ∙ ap (λ (x : Verdict). settle x (slotAfter (slotAt (tableIn m) (names a)) a) (slotAt (tableIn m) (names a))) accepted in
         let same : r ≡ w .state = slot-started r (w .state) (eqb (r .n) 0) (e ∙ own ∙ w .becomes) in
         by-answer m a 0 after Accepted (rw f accepted) refl
         (h ∙ ap (λ (x : State). putFields m (names a) (lentOf x)) same ∙ sym (ap (putSlot m (names a)) (w .becomes)))
