@@ -1,7 +1,7 @@
 -- Each call is the operation by value, of the state that is lent. Assumes nothing.
 use Prim.Native.Nat.{ℕ}
 use borrow.Author.Tests.{ltb-false, not-false}
-use mathlib.Core.Path.{_∙_, _≡_, ap, refl, sym}
+use mathlib.Core.Path.{_∙_, _≡_, ap, refl, subst, sym}
 use Rattle.refusal.proofs.Table.{none-holds}
 use Rattle.refusal.specs.Table.{NoneHolds, also, firstOf, none, settle}
 use Rattle.refusal.specs.declared.Refusal.{Refusal}
@@ -10,10 +10,13 @@ use Rattle.refusal.specs.declared.Verdict.the-variants.{Accepted, Refused}
 use Rattle.ring_rules.proofs.Theorems.{driver-counts}
 use Rattle.ring_rules.specs.Driver.{driveOf, driveTable, moveLimit, reasonVerdict}
 use Rattle.ring_rules.specs.Theorems.{Ended, concluded, spends, waits}
+use Rattle.table_rules.specs.Answers.{answerOn}
 use Rattle.tree_text.specs.Write.{bufferOf, writeVerdict, writtenOf}
 use Rattle.lent.proofs.Sound.{fields-hold}
+use Rattle.lent.proofs.TableCalls.{left-by}
 use Rattle.lent.proofs.Tree.{number-told}
 use Rattle.lent.specs.Ring.{lentOf}
+use Rattle.lent.specs.Table.{Eight, tableIn, tableTruths}
 use Rattle.lent.specs.Theorems.{CallsAnswer}
 use Rattle.lent.specs.Tree.{lentTreeOf}
 use Rattle.ring_rules.proofs.Theorems as ring
@@ -53,7 +56,7 @@ module _ (r : ringState.State) (m : ℕ) where
       go (Refused e) p = rw (driver-counts .refused r m e p)
 
 pub calls-answer : CallsAnswer
-unfolding ringAnswers.answerOf treeAnswers.answerOf writtenOf bufferOf
+unfolding ringAnswers.answerOf treeAnswers.answerOf writtenOf bufferOf answerOn
 calls-answer =
     record {
       start = λ s. (s .told, s .fields);
@@ -83,4 +86,12 @@ calls-answer =
         rw (fields-hold .tree t .0, fields-hold .tree t .1) at (w .long),
       );
       read = λ r. (r .told, r .engagers, r .outermost);
+      table = λ m e f {a} s.
+          let l = left-by m e f a in (
+            rw f at (s .told),
+            ap tableIn (s .fields) ∙ l .table,
+            ap tableTruths (s .fields) ∙ l .truths,
+            subst Eight (sym (s .fields)) (l .eight),
+          );
+      table-sound = λ m f. rw f;
     }

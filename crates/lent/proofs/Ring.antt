@@ -6,10 +6,10 @@ use mathlib.Core.List.{List, [], _∷_}
 use mathlib.Core.Logic.{inl, inr}
 use mathlib.Core.Path.{_∙_, _≡_, ap, refl, sym}
 use native.Mathlib.Omega.{arith}
-use Rattle.flag_bytes.proofs.Laws.{flag-back, flags-back, narrow-same}
+use Rattle.flag_bytes.proofs.Laws.{flag-back, flags-back, narrow-same, truth-back, truths-back}
 use Rattle.flag_bytes.specs.Flags.{areFlags, byteOf, bytesOf, isFlag}
 use Rattle.flag_bytes.specs.Narrow.{kindByte, limitWord}
-use Rattle.laws.proofs.Tests.{both}
+use Rattle.laws.proofs.Tests.{both, both-true}
 use Rattle.refusal.proofs.Table.{not-both}
 use Rattle.refusal.specs.Table.{_⟶_, codeOf, firstOf, settle}
 use Rattle.refusal.specs.declared.Refusal.{Refusal}
@@ -35,6 +35,15 @@ ring-back l f =
     let b = both (isFlag (l .black)) (isFlag (l .closed)) (a .1) in
     λ x. lent (l .n) (flags-back (l .active) (a .0) x) (l .color) (l .sent) (l .received) (l .pending) (l .pos) (l .q)
     (flag-back (l .black) (b .0) x) (flag-back (l .closed) (b .1) x)
+
+-- the fields that a ring is put into hold truths as bytes, and the very ring
+pub ring-held : (r : State) → (truthsTest (lentOf r) ≡ true) × (stateOf (lentOf r) ≡ r)
+unfolding truthsTest
+ring-held r =
+    let active = truths-back (r .active) in let black = truth-back (r .black) in let closed = truth-back (r .closed) in (
+      both-true (active .0) (both-true (black .0) (closed .0)),
+      rw (active .1, black .1, closed .1),
+    )
 
 -- ---- a start
 

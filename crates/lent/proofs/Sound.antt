@@ -15,6 +15,7 @@ use Rattle.ring_rules.proofs.Theorems.{driver-counts}
 use Rattle.ring_rules.specs.Driver.{driveBy, driveOf, driveTable, moveLimit, reasonNumber, reasonVerdict}
 use Rattle.ring_rules.specs.declared.Reason.{Reason}
 use Rattle.ring_rules.specs.declared.Reason.the-variants.{Conclusive, Spent, Stopped, Waiting}
+use Rattle.table_rules.specs.Answers.{verdictOn}
 use Rattle.ring_rules.proofs.Theorems as ring
 use Rattle.ring_rules.specs.Answers as ringAnswers
 use Rattle.ring_rules.specs.Rules as ringRules
@@ -27,9 +28,12 @@ use Rattle.tree_rules.specs.Rules as treeRules
 use Rattle.tree_rules.specs.Soundness as treeSound
 use Rattle.tree_rules.specs.Start as treeStart
 use Rattle.tree_rules.specs.State as treeState
-use Rattle.lent.proofs.Ring.{ring-back}
+use Rattle.lent.proofs.Ring.{ring-back, ring-held}
+use Rattle.lent.proofs.Table.{put-back, put-table, put-there}
+use Rattle.lent.proofs.TableCalls.{left-sound, none-told, table-judged}
 use Rattle.lent.proofs.Tree.{tree-back}
 use Rattle.lent.specs.Ring.{driveReason, truthsTest, lentOf, soundNumber, stateOf, stepVerdict}
+use Rattle.lent.specs.Table.{askVerdict, fieldsAt, putFields, tableIn, tableSoundNumber, tableTruths}
 use Rattle.lent.specs.Theorems.{FieldsHold, SoundLeft}
 use Rattle.lent.specs.Tree.{lentTreeOf, treeTruthsTest, treeOf, treeSoundNumber, treeStepVerdict}
 
@@ -39,11 +43,7 @@ pub fields-hold : FieldsHold
 unfolding truthsTest treeTruthsTest
 fields-hold =
     record {
-      ring = λ r.
-          let active = truths-back (r .active) in let black = truth-back (r .black) in let closed = truth-back (r .closed) in (
-            both-true (active .0) (both-true (black .0) (closed .0)),
-            rw (active .1, black .1, closed .1),
-          );
+      ring = ring-held;
       ring-back = ring-back;
       tree = λ t.
           let active = truths-back (t .active) in let closed = truth-back (t .closed) in (
@@ -51,6 +51,8 @@ fields-hold =
             rw (active .1, closed .1),
           );
       tree-back = tree-back;
+      table = λ m e u h l. (put-there m u l e h, put-table m u l e h);
+      table-back = λ m u f. ap (putFields m u) (ring-back (fieldsAt m u) f) ∙ put-back m u;
     }
 
 -- ---- what accepted calls leave
@@ -115,4 +117,8 @@ sound-left =
           let v = code-accepted (treeStepVerdict l kind i j) (sym (s .told)) in
           ap treeSoundNumber (s .fields ∙ settled (treeStepVerdict l kind i j) _ _ v)
           ∙ tree-sound _ (tree.sound-kept .step (treeOf l) (treeRules.kindOf kind) i j (judged (treeTruthsTest l) _ v));
+      table = λ {m} {after} {a} e s.
+          let v = table-judged (tableTruths m) (verdictOn (tableIn m) a) (code-accepted (askVerdict m a) (sym (s .told))) in
+          ap tableSoundNumber (s .fields) ∙ left-sound m e (v .0) a (v .1);
+      table-none = none-told;
     }

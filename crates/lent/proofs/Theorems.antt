@@ -1,5 +1,6 @@
 -- What the contracts add up to. Assumes nothing.
 use Prim.Native.Nat.{_<_}
+use borrow.Author.Tests.{ne-eqb}
 use mathlib.Core.Bool.{Bool, _&&_, and-false, false}
 use mathlib.Core.Path.{_∙_, _≡_, ap, refl}
 use native.Mathlib.Omega.{arith}
@@ -15,9 +16,11 @@ use Rattle.ring_rules.specs.declared.Reason.the-variants.{Conclusive, Spent, St
 use Rattle.tree_text.specs.Read.{readOf}
 use Rattle.ring_rules.specs.Start as ring
 use Rattle.tree_rules.specs.Start as tree
+use Rattle.lent.proofs.TableCalls.{answered-others, table-flags-fail}
 use Rattle.lent.specs.Ring.{Lent, driveReason, driveVerdict, truthsTest, stepVerdict}
+use Rattle.lent.specs.Table.{LentTable, askVerdict, fieldsAt, tableTruths}
 use Rattle.lent.specs.Tree.{LentTree, treeTruthsTest, treeStepVerdict, writeVerdict}
-use Rattle.lent.specs.Theorems.{BytesJudged, NoFlag, NoTreeFlag, RefusalsKeep, inActive, inBlack, inClosed}
+use Rattle.lent.specs.Theorems.{BytesJudged, NoFlag, NoTableFlag, NoTreeFlag, RefusalsKeep, inActive, inBlack, inClosed}
 
 -- ---- a refusal keeps
 
@@ -53,6 +56,8 @@ refusals-keep =
             r .engagers ∙ kept (readOf n s .verdict) _ _ v,
             r .outermost ∙ kept (readOf n s .verdict) _ _ v,
           );
+      table = λ {m} {after} {a} s h. s .fields ∙ kept (askVerdict m a) _ _ (λ p. h (s .told ∙ ap codeOf p));
+      table-others = λ {m} {after} {a} s v ne. ap (λ (l : LentTable). fieldsAt l v) (s .fields) ∙ answered-others m a v ne;
     }
 
 -- ---- a byte above 1
@@ -71,6 +76,11 @@ unfolding treeTruthsTest
 tree-flags-fail {l} (inActive k h) = rw (no-flags (l .active) k h)
 tree-flags-fail {l} (inClosed h) = ap (λ (b : Bool). areFlags (l .active) && b) (no-flag (l .closed) h) ∙ and-false (areFlags (l .active))
 
+started-fail : {m : LentTable} → NoTableFlag m → tableTruths m ≡ false
+started-fail {m} f =
+    let k = f .started in
+    table-flags-fail m (f .update) (f .inside) (rw (ne-eqb (fieldsAt m (f .update) .n) 0 (λ z. omega arith), flags-fail (f .byte)))
+
 pub bytes-judged : BytesJudged
 bytes-judged =
     record {
@@ -80,4 +90,6 @@ bytes-judged =
       tree-step = λ n s. rw (tree-flags-fail n) at (s .told);
       tree-sound = λ n. rw (tree-flags-fail n);
       write = λ n w. rw (tree-flags-fail n) at (w .told);
+      table = λ n s. rw (started-fail n) at (s .told);
+      table-sound = λ n. rw (started-fail n);
     }

@@ -8,9 +8,13 @@ use mathlib.Core.Path.{_≡_}
 use Rattle.flag_bytes.specs.Flags.{byteOf}
 use Rattle.refusal.specs.Table.{codeOf, settle}
 use Rattle.ring_rules.specs.Driver.{driveOf, reasonNumber, reasonVerdict}
+use Rattle.table_rules.specs.Answers.{Ask, answerOn, names}
+use Rattle.table_rules.specs.Soundness.{soundTableTest}
+use Rattle.table_rules.specs.Table.{put, slotOf}
 use Rattle.tree_text.specs.Read.{readOf}
 use Rattle.tree_text.specs.Write.{bufferOf, stateText, writeVerdict, writtenNumber, writtenOf}
 use Rattle.lent.specs.Ring.{DrivenTo, Lent, StartedTo, SteppedTo, truthsTest, lentOf, soundNumber, stateOf}
+use Rattle.lent.specs.Table.{AnsweredTo, Eight, LentTable, fieldsAt, putFields, tableIn, tableSoundNumber, tableTruths}
 use Rattle.lent.specs.Tree.{LentTree, ReadAs, TreeStartedTo, TreeSteppedTo, WrittenAs, lentTreeOf, treeTruthsTest, treeOf, treeSoundNumber}
 use Rattle.ring_rules.specs.Answers as ringAnswers
 use Rattle.ring_rules.specs.Soundness as ringSound
@@ -42,6 +46,11 @@ pub record RefusalsKeep : Type 0 where
   pub read :
       {n number root root′ : ℕ} {s engager engager′ : List ℕ} → ReadAs n s number engager root engager′ root′ → (number ≡ 0 → ⊥)
       → (engager′ ≡ engager) × (root′ ≡ root)
+  pub table : {m after : LentTable} {a : Ask} {number : ℕ} → AnsweredTo m a number after → (number ≡ 0 → ⊥) → after ≡ m
+  -- whatever it is answered, a request leaves the places of the other seven updates, started or not
+  pub table-others :
+      {m after : LentTable} {a : Ask} {number : ℕ} → AnsweredTo m a number after → (v : ℕ) → (v ≡ names a → ⊥)
+      → fieldsAt after v ≡ fieldsAt m v
 
 -- a byte above 1 where a truth is lent, at whatever place
 pub data NoFlag (l : Lent) : Type 0 where
@@ -53,6 +62,13 @@ pub data NoTreeFlag (l : LentTree) : Type 0 where
   inActive : (k : ℕ) → 1 < getD (l .active) k 0 → NoTreeFlag l
   inClosed : 1 < l .closed → NoTreeFlag l
 
+-- the same at a started update of a table
+pub record NoTableFlag (m : LentTable) : Type 0 where
+  pub update : ℕ
+  pub inside : update < 8
+  pub started : 0 < fieldsAt m update .n
+  pub byte : NoFlag (fieldsAt m update)
+
 -- "any state handed in, 3, not sound": such a byte is answered 3, and told as not sound
 pub record BytesJudged : Type 0 where
   pub step : {l after : Lent} {kind i j number : ℕ} → NoFlag l → SteppedTo l kind i j number after → number ≡ 3
@@ -63,6 +79,8 @@ pub record BytesJudged : Type 0 where
   pub write :
       {l : LentTree} {buf buf′ : List ℕ} {number length length′ : ℕ} → NoTreeFlag l → WrittenAs l buf number length length′ buf′
       → number ≡ 3
+  pub table : {m after : LentTable} {a : Ask} {number : ℕ} → NoTableFlag m → AnsweredTo m a number after → number ≡ 3
+  pub table-sound : {m : LentTable} → NoTableFlag m → tableSoundNumber m ≡ 0
 
 -- the fields that a state is put into hold truths as bytes, and the very state; where each byte that stands for a truth is 0 or 1, the fields are
 -- those of the state that lies there
@@ -71,6 +89,11 @@ pub record FieldsHold : Type 0 where
   pub ring-back : (l : Lent) → truthsTest l ≡ true → lentOf (stateOf l) ≡ l
   pub tree : (t : tree.State) → (treeTruthsTest (lentTreeOf t) ≡ true) × (treeOf (lentTreeOf t) ≡ t)
   pub tree-back : (l : LentTree) → treeTruthsTest l ≡ true → lentTreeOf (treeOf l) ≡ l
+  -- fields put at an update lie there, and the table that lies in the columns is the same but for that update
+  pub table :
+      (m : LentTable) → Eight m → (u : ℕ) → u < 8 → (l : Lent)
+      → (fieldsAt (putFields m u l) u ≡ l) × (tableIn (putFields m u l) ≡ put (tableIn m) u (slotOf (stateOf l)))
+  pub table-back : (m : LentTable) (u : ℕ) → truthsTest (fieldsAt m u) ≡ true → putFields m u (lentOf (stateOf (fieldsAt m u))) ≡ m
 
 -- "Every start and accepted step gives a sound state": its fields are told as sound; so are those that a driver which was not refused leaves
 pub record SoundLeft : Type 0 where
@@ -81,6 +104,9 @@ pub record SoundLeft : Type 0 where
       → soundNumber after ≡ 1
   pub tree-start : {nodes at : ℕ} {before after : LentTree} → TreeStartedTo nodes at 0 before after → treeSoundNumber after ≡ 1
   pub tree-step : {l after : LentTree} {kind i j : ℕ} → TreeSteppedTo l kind i j 0 after → treeSoundNumber after ≡ 1
+  pub table : {m after : LentTable} {a : Ask} → Eight m → AnsweredTo m a 0 after → tableSoundNumber after ≡ 1
+  -- columns in which no update is started are sound, whatever else they hold
+  pub table-none : (m : LentTable) → ((u : ℕ) → u < 8 → fieldsAt m u .n ≡ 0) → tableSoundNumber m ≡ 1
 
 -- each call is the operation by value, of the state that is lent and of the very numbers that are handed in, whatever their size
 pub record CallsAnswer : Type 0 where
@@ -112,3 +138,9 @@ pub record CallsAnswer : Type 0 where
       {n number root root′ : ℕ} {s engager engager′ : List ℕ} → ReadAs n s number engager root engager′ root′
       → (number ≡ codeOf (readOf n s .verdict)) × (engager′ ≡ settle (readOf n s .verdict) (readOf n s .engager) engager)
       × (root′ ≡ settle (readOf n s .verdict) (readOf n s .root) root)
+  -- of a table that lies in columns of eight, and lies in such columns again
+  pub table :
+      (m : LentTable) → Eight m → tableTruths m ≡ true → {a : Ask} {number : ℕ} {after : LentTable} → AnsweredTo m a number after
+      → (number ≡ codeOf (answerOn (tableIn m) a .verdict)) × (tableIn after ≡ answerOn (tableIn m) a .table)
+      × (tableTruths after ≡ true) × Eight after
+  pub table-sound : (m : LentTable) → tableTruths m ≡ true → tableSoundNumber m ≡ byteOf (soundTableTest (tableIn m))
