@@ -1,14 +1,15 @@
 /*
- * Muzserlik: a proved termination detector. A ring of up to 96 nodes by Safra's rules (EWD998), a tree of up to 16 nodes by those of
- * Dijkstra and Scholten.
+ * Muzserlik: a proved termination detector. A ring of up to 96 nodes by Safra's rules (EWD998), a table of eight updates on one such ring, a tree of up
+ * to 16 nodes by the rules of Dijkstra and Scholten.
  *
  * Link with libmuzserlik.a, which c/archive makes, on x86-64 Linux. Every function of the archive is proved to meet its contract; the contracts
- * are in crates/ring_exports/src and crates/tree_exports/src. The inline functions of this header are tested only: they hand the fields of a
+ * are in crates/ring_exports/src, crates/table_exports/src and crates/tree_exports/src. The inline functions of this header are tested only: they hand the fields of a
  * struct on, one by one, and put a pointer of their own where a length is 0.
  *
  * A call
  *   - is answered with a number: 0 if it is accepted, else the number of the first check that it fails (enum muzserlik_answer). The checks of a
- *     call are made in the order of their numbers; in reading, the first fault from the left decides. The driver answers with 100, 101 or 102,
+ *     call are made in the order of their numbers, but 13 comes after 3 and before all others, of a table 3 before 1 and 2; in reading, the first
+ *     fault from the left decides. The driver answers with 100, 101 or 102,
  *     or with a refusal. Soundness is answered with 1 or 0;
  *   - that is refused leaves every byte that it was lent as it was;
  *   - judges whatever a struct holds: one that is not sound is refused with 3 (README, "Sound states", says which are). One that was filled or changed by
@@ -38,6 +39,7 @@
 
 #include <stddef.h>
 #include <stdint.h>
+#include <string.h>
 
 #ifdef __cplusplus
 static_assert(sizeof(size_t) == 8, "libmuzserlik.a is for x86-64");
@@ -49,12 +51,14 @@ _Static_assert(sizeof(size_t) == 8, "libmuzserlik.a is for x86-64");
 enum {
     MUZSERLIK_RING_NODES = 96,
     MUZSERLIK_RING_COLOR_BYTES = 12,
+    /* updates of a table */
+    MUZSERLIK_UPDATES = 8,
     MUZSERLIK_TREE_NODES = 16,
     /* no engager */
     MUZSERLIK_TREE_NONE = 16,
     /* a tree's text is never longer */
     MUZSERLIK_TREE_TEXT_BYTES = 69,
-    /* accepted sends of one run, at most */
+    /* accepted sends of one run, at most; of a table, of its started updates together */
     MUZSERLIK_SEND_LIMIT = 1000000,
     /* moves of one drive, at most */
     MUZSERLIK_MOVE_LIMIT = 1000
@@ -62,9 +66,9 @@ enum {
 
 enum muzserlik_answer {
     MUZSERLIK_ACCEPTED = 0,
-    /* start, reading: the number of nodes is outside 1 to 96, or 1 to 16 for a tree */
+    /* start, reading: the number of nodes is outside 1 to 96, or 1 to 16 for a tree; in a table, or is another than that of a started update */
     MUZSERLIK_REFUSED_NODE_COUNT = 1,
-    /* start of a ring: not one flag for each node, or one above 3 */
+    /* start of a ring or an update: not one flag for each node, or one above 3 */
     MUZSERLIK_REFUSED_START_FLAGS = 2,
     /* the struct handed in is not sound */
     MUZSERLIK_REFUSED_UNSOUND = 3,
@@ -78,7 +82,7 @@ enum muzserlik_answer {
     MUZSERLIK_REFUSED_SELF_MESSAGE = 7,
     /* the step's rule does not hold: the step is not possible now */
     MUZSERLIK_REFUSED_RULE_FAILS = 8,
-    /* a send after 1,000,000 accepted ones */
+    /* a send after 1,000,000 accepted ones; in a table, of the started updates together, closed ones too, each since its latest start */
     MUZSERLIK_REFUSED_SEND_LIMIT = 9,
     /* reading: the text is not a tree's, by another fault than a number of n or more */
     MUZSERLIK_REFUSED_NOT_A_FORM = 10,
@@ -86,6 +90,8 @@ enum muzserlik_answer {
     MUZSERLIK_REFUSED_MOVE_LIMIT = 11,
     /* writing: the buffer is shorter than the text */
     MUZSERLIK_REFUSED_SHORT_BUFFER = 12,
+    /* a table: the update is above 7, or a step's update is not started */
+    MUZSERLIK_REFUSED_UNKNOWN_UPDATE = 13,
     /* the driver, which never answers 0, stopped: the announce test holds; no token move is allowed; it made as many moves as it was allowed */
     MUZSERLIK_CONCLUSIVE = 100,
     MUZSERLIK_WAITING = 101,
@@ -143,6 +149,23 @@ struct muzserlik_ring {
     uint8_t closed;                             /* 1 once an announcement is accepted, else 0 */
 };
 
+/*
+ * A table: updates 0 to 7, each not started, or a ring of its own over the same nodes. Place u of each field is update u's, as that of the ring's
+ * struct. An update of no nodes, n[u] of 0, is not started: nothing is asked of the rest of its places, and no answer depends on them.
+ */
+struct muzserlik_table {
+    size_t n[MUZSERLIK_UPDATES];
+    size_t pos[MUZSERLIK_UPDATES];
+    int64_t q[MUZSERLIK_UPDATES];
+    uint8_t black[MUZSERLIK_UPDATES];
+    uint8_t closed[MUZSERLIK_UPDATES];
+    uint8_t active[MUZSERLIK_UPDATES][MUZSERLIK_RING_NODES];
+    uint8_t color[MUZSERLIK_UPDATES][MUZSERLIK_RING_COLOR_BYTES];
+    uint32_t sent[MUZSERLIK_UPDATES][MUZSERLIK_RING_NODES];
+    uint32_t received[MUZSERLIK_UPDATES][MUZSERLIK_RING_NODES];
+    uint32_t pending[MUZSERLIK_UPDATES][MUZSERLIK_RING_NODES];
+};
+
 /* A tree. Places from n on are zero, their engagers 16. */
 struct muzserlik_tree {
     size_t n;                                /* nodes */
@@ -169,6 +192,18 @@ uint8_t muzserlik_ring_is_sound_fields(size_t n, const uint8_t *active, const ui
 uint8_t muzserlik_ring_drive_fields(size_t n, const uint8_t *active, uint8_t *color, const uint32_t *sent, const uint32_t *received,
                                     const uint32_t *pending, size_t *pos, int64_t *q, uint8_t *black, uint8_t closed, size_t limit,
                                     uint32_t *moves);
+uint8_t muzserlik_table_start_fields(size_t *n, size_t *pos, int64_t *q, uint8_t *black, uint8_t *closed,
+                                     uint8_t (*active)[MUZSERLIK_RING_NODES], uint8_t (*color)[MUZSERLIK_RING_COLOR_BYTES],
+                                     uint32_t (*sent)[MUZSERLIK_RING_NODES], uint32_t (*received)[MUZSERLIK_RING_NODES],
+                                     uint32_t (*pending)[MUZSERLIK_RING_NODES], size_t update, size_t nodes, const uint8_t *flags, size_t count);
+uint8_t muzserlik_table_step_fields(size_t *n, size_t *pos, int64_t *q, uint8_t *black, uint8_t *closed,
+                                    uint8_t (*active)[MUZSERLIK_RING_NODES], uint8_t (*color)[MUZSERLIK_RING_COLOR_BYTES],
+                                    uint32_t (*sent)[MUZSERLIK_RING_NODES], uint32_t (*received)[MUZSERLIK_RING_NODES],
+                                    uint32_t (*pending)[MUZSERLIK_RING_NODES], size_t update, size_t kind, size_t i, size_t j);
+uint8_t muzserlik_table_is_sound_fields(const size_t *n, const size_t *pos, const int64_t *q, const uint8_t *black, const uint8_t *closed,
+                                        const uint8_t (*active)[MUZSERLIK_RING_NODES], const uint8_t (*color)[MUZSERLIK_RING_COLOR_BYTES],
+                                        const uint32_t (*sent)[MUZSERLIK_RING_NODES], const uint32_t (*received)[MUZSERLIK_RING_NODES],
+                                        const uint32_t (*pending)[MUZSERLIK_RING_NODES]);
 uint8_t muzserlik_tree_start_fields(size_t nodes, size_t at, size_t *n, size_t *root, uint8_t *active, uint8_t *engager,
                                     uint32_t *unacked, uint32_t *transit, uint32_t *acks, uint32_t *sends, uint8_t *closed);
 uint8_t muzserlik_tree_step_fields(size_t n, size_t root, uint8_t *active, uint8_t *engager, uint32_t *unacked, uint32_t *transit,
@@ -217,6 +252,40 @@ static inline int muzserlik_ring_drive(struct muzserlik_ring *ring, size_t limit
 {
     return muzserlik_ring_drive_fields(ring->n, ring->active, ring->color, ring->sent, ring->received, ring->pending, &ring->pos, &ring->q,
                                        &ring->black, ring->closed, limit, moves);
+}
+
+/* ---- The table */
+
+/* Makes a table with nothing started, all bytes zero. Whoever has no table yet begins so; a table of zeros is one already. */
+static inline void muzserlik_table_clear(struct muzserlik_table *table)
+{
+    memset(table, 0, sizeof *table);
+}
+
+/*
+ * Starts an update of n nodes, or starts it afresh, open or closed, which gives its old sends back; `flags` and `count` as for a ring's start. The first
+ * start that is accepted fixes n for the whole table. 0, and no other update's places are written to; 3, 13, 1 or 2, in this order, with the table as it
+ * was, the old run of that update too.
+ */
+static inline int muzserlik_table_start(struct muzserlik_table *table, size_t update, size_t n, const uint8_t *flags, size_t count)
+{
+    const uint8_t none = 0;
+    return muzserlik_table_start_fields(table->n, table->pos, table->q, table->black, table->closed, table->active, table->color, table->sent,
+                                        table->received, table->pending, update, n, count == 0 ? &none : flags, count);
+}
+
+/* One step of a ring, of an update. 0, and no other update's places are written to; 3, 13, or 4 to 9 with the table as it was. */
+static inline int muzserlik_table_step(struct muzserlik_table *table, size_t update, size_t kind, size_t i, size_t j)
+{
+    return muzserlik_table_step_fields(table->n, table->pos, table->q, table->black, table->closed, table->active, table->color, table->sent,
+                                       table->received, table->pending, update, kind, i, j);
+}
+
+/* 1 where the table is sound, else 0: its started updates are sound rings of one n, with at most 1,000,000 sends together. */
+static inline int muzserlik_table_is_sound(const struct muzserlik_table *table)
+{
+    return muzserlik_table_is_sound_fields(table->n, table->pos, table->q, table->black, table->closed, table->active, table->color,
+                                           table->sent, table->received, table->pending);
 }
 
 /* ---- The tree */
