@@ -8,7 +8,7 @@
  *
  * A call
  *   - is answered with a number: 0 if it is accepted, else the number of the first check that it fails (enum muzserlik_answer). The checks of a
- *     call are made in the order of their numbers, but 13 comes after 3 and before all others, of a table 3 before 1 and 2; in reading, the first
+ *     call are made in the order of their numbers, but of a table 3 and then 13 come first; in reading, the first
  *     fault from the left decides. The driver answers with 100, 101 or 102,
  *     or with a refusal. Soundness is answered with 1 or 0;
  *   - that is refused leaves every byte that it was lent as it was;
@@ -32,7 +32,7 @@
  * node. A struct may be copied by assignment. It has padding: memcmp does not compare two rings or two trees.
  *
  * The archive needs memcpy and memset, and nothing else; it has no data of its own that is written to, and takes no memory but the stack, less than
- * 32 KiB (measured). A step first walks the whole struct to see that it is sound. Header and archive are of one checkout: neither has a version.
+ * 32 KiB, a call on a table less than 80 KiB (measured). A step first walks the whole struct to see that it is sound. Header and archive are of one checkout: neither has a version.
  */
 #ifndef MUZSERLIK_H
 #define MUZSERLIK_H
