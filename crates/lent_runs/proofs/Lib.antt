@@ -1,3 +1,4 @@
 pub mod Ring
 pub mod Tree
+pub mod Table
 pub mod Theorems

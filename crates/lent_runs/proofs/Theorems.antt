@@ -1,6 +1,6 @@
 -- Demand 3 of calls. Assumes nothing.
 use Prim.Native.Nat.{ℕ}
-use mathlib.Core.Bool.{Bool, _||_, false, true}
+use mathlib.Core.Bool.{Bool, _||_, cond, false, true}
 use mathlib.Core.List.{List}
 use mathlib.Core.Logic.{_↔_}
 use mathlib.Core.Path.{_∙_, _≡_, ap, refl, subst, sym}
@@ -10,13 +10,20 @@ use Rattle.laws.proofs.Tests.{both}
 use Rattle.lent.proofs.Calls.{calls-answer}
 use Rattle.lent.proofs.Sound.{fields-hold}
 use Rattle.lent.specs.Ring.{Lent, lentOf, stateOf, truthsTest}
+use Rattle.lent.specs.Table.{Eight, LentTable, tableIn, tableSoundNumber, tableTruths}
 use Rattle.lent.specs.Tree.{LentTree, lentTreeOf, treeOf, treeStepNumber, treeTruthsTest}
 use Rattle.refusal.proofs.Table.{code-accepted}
 use Rattle.refusal.specs.Table.{codeOf}
+use Rattle.refusal.specs.declared.Refusal.the-variants.{Unsound}
 use Rattle.refusal.specs.declared.Verdict.{Verdict}
-use Rattle.refusal.specs.declared.Verdict.the-variants.{Accepted}
+use Rattle.refusal.specs.declared.Verdict.the-variants.{Accepted, Refused}
 use Rattle.runs.proofs.Runs.{run-of}
 use Rattle.runs.specs.Runs.{Request, acceptedOf, runOf}
+use Rattle.table_rules.proofs.Theorems.{table-kept, table-tested}
+use Rattle.table_rules.specs.Answers.{Ask, verdictOn}
+use Rattle.table_rules.specs.Runs.{table}
+use Rattle.table_rules.specs.Soundness.{soundTableTest}
+use Rattle.table_rules.specs.Table.{Table}
 use Rattle.ring_rules.proofs.Answers as ringAnswered
 use Rattle.ring_rules.proofs.Driver as ringDriver
 use Rattle.ring_rules.proofs.Theorems as ringRules
@@ -38,9 +45,11 @@ use Rattle.tree_runs.proofs.Traced as treeTrace
 use Rattle.tree_runs.proofs.WholeRun as treeRun
 use Rattle.tree_runs.specs.Counts as treeCounts
 use Rattle.lent_runs.proofs.Ring as rings
+use Rattle.lent_runs.proofs.Table as tables
 use Rattle.lent_runs.proofs.Tree as trees
 use Rattle.lent_runs.specs.Ring.{RingCall, drive, fieldsAfter, fieldsLeft, numberTold, requestsIn, requestsOf, step}
-use Rattle.lent_runs.specs.Theorems.{RingCalls, TreeCalls, WholeCalls}
+use Rattle.lent_runs.specs.Table.{columnsAfter}
+use Rattle.lent_runs.specs.Theorems.{RingCalls, TableCalls, TreeCalls, WholeCalls}
 use Rattle.lent_runs.specs.Tree.{treeFieldsAfter}
 
 -- a number that is a verdict's code is 0 exactly if the verdict is accepted
@@ -150,12 +159,33 @@ one-true : (b : Bool) → byteOf b ≡ 1 → b ≡ true
 one-true true e = refl
 one-true false e = absurd (omega arith)
 
+-- ---- the table
+
+table-calls : (m : LentTable) → Eight m → tableSoundNumber m ≡ 1 → (ls : List Ask) → TableCalls m ls
+table-calls m e k ls =
+    let p = both (tableTruths m) (soundTableTest (tableIn m)) (one-true _ k) in
+    let c = tables.comes m e (p .0) ls in
+    record {
+      there = c .table-there;
+      told = λ a.
+          ap (λ (b : Bool). codeOf (cond b (verdictOn (tableIn (columnsAfter m ls)) a) (Refused Unsound))) (c .truths)
+          ∙ ap (λ (t : Table). codeOf (verdictOn t a)) (c .table-there);
+      sound =
+          rw (
+            c .truths,
+            c .table-there,
+            table-tested .tested (runOf table (tableIn m) ls) (table-kept .run (tableIn m) (table-tested .holds (tableIn m) (p .1)) ls),
+          );
+      unnamed = λ u. tables.unnamed u m ls;
+    }
+
 pub whole-calls : WholeCalls
 unfolding ringStart.startOf treeStart.startOf
 whole-calls =
     record {
       ring = ring-calls;
       tree = tree-calls;
+      table-calls = table-calls;
       ring-started = λ {nodes} {flags} s.
           let v = code-accepted (ringStart.startOf nodes flags .verdict) (sym (s .told)) in
           (calls-answer .start s .1 ∙ rw v, ringRules.sound-kept .start nodes flags v);

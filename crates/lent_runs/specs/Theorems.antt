@@ -1,12 +1,16 @@
 -- Demand 3 of calls: lists of steps and drives on one ring that is lent, and of steps on one tree, refused ones included, are runs. A start begins a
 -- new list; soundness and texts only read what is lent.
 use Prim.Native.Nat.{_*_, _-_, _≤_, ℕ}
-use mathlib.Core.List.{List}
+use mathlib.Core.List.{List, []}
 use mathlib.Core.Logic.{_↔_}
 use mathlib.Core.Path.{_≡_}
 use Rattle.lent.specs.Ring.{Lent, StartedTo, lentOf, soundNumber, stateOf}
+use Rattle.lent.specs.Table.{Eight, LentTable, askNumber, fieldsAt, tableIn, tableSoundNumber}
 use Rattle.lent.specs.Tree.{LentTree, TreeStartedTo, lentTreeOf, treeOf, treeSoundNumber, treeStepNumber}
+use Rattle.refusal.specs.Table.{codeOf}
 use Rattle.runs.specs.Runs.{Accepts, Request, acceptedOf, runOf}
+use Rattle.table_rules.specs.Answers.{Ask, verdictOn}
+use Rattle.table_rules.specs.Runs.{naming, table}
 use Rattle.ring_rules.specs.Driver as ringDrive
 use Rattle.ring_rules.specs.Rules as ringRules
 use Rattle.ring_rules.specs.Soundness as ringSound
@@ -21,6 +25,7 @@ use Rattle.tree_rules.specs.State as treeState
 use Rattle.tree_runs.specs.Counts as treeCounts
 use Rattle.tree_runs.specs.WholeRun as treeRun
 use Rattle.lent_runs.specs.Ring.{RingCall, drive, fieldsAfter, fieldsLeft, numberTold, requestsIn, requestsOf, step}
+use Rattle.lent_runs.specs.Table.{columnsAfter}
 use Rattle.lent_runs.specs.Tree.{treeFieldsAfter}
 
 -- After the calls cs on the fields of the ring r, which come to the requests xs.
@@ -61,10 +66,20 @@ pub record TreeCalls (t : treeState.State) (xs : List Request) : Type 0 where
   pub last :
       treeCounts.Announced t xs → (x : Request) → treeStepNumber (treeFieldsAfter (lentTreeOf t) xs) (x .kind) (x .i) (x .j) ≡ 4
 
+-- After the starts and steps ls of any updates on the columns m of a table: they are a run of the table, of which table_runs says demand 3 for each update.
+pub record TableCalls (m : LentTable) (ls : List Ask) : Type 0 where
+  pub there : tableIn (columnsAfter m ls) ≡ runOf table (tableIn m) ls
+  -- each call tells the number of the answer that this run gives next
+  pub told : (a : Ask) → askNumber (columnsAfter m ls) a ≡ codeOf (verdictOn (runOf table (tableIn m) ls) a)
+  pub sound : tableSoundNumber (columnsAfter m ls) ≡ 1
+  -- every byte of an update that none of them names is as it was
+  pub unnamed : (u : ℕ) → naming u ls ≡ [] → fieldsAt (columnsAfter m ls) u ≡ fieldsAt m u
+
 -- for every such list on the fields of every sound state that is not yet announced
 pub record WholeCalls : Type 0 where
   pub ring : (r : ringState.State) → ringSound.Open r → (cs : List RingCall) → RingCalls r cs (requestsIn (lentOf r) cs)
   pub tree : (t : treeState.State) → treeSound.Open t → (xs : List Request) → TreeCalls t xs
+  pub table-calls : (m : LentTable) → Eight m → tableSoundNumber m ≡ 1 → (ls : List Ask) → TableCalls m ls
   -- such fields are those that an accepted start leaves, and all that are told as sound and are not closed
   pub ring-started :
       {nodes : ℕ} {flags : List ℕ} {before after : Lent} → StartedTo nodes flags 0 before after
