@@ -121,3 +121,7 @@ empty-places t e = sym (length-map (t .rings) slotBy) ∙ ap (λ (x : rules.Tabl
 pub lent-by : (m : Memory) (t : Table) → Holds m t → SoundTable (table t) → (k : ℕ) → k ≡ sends (table t) → Lent m k
 lent-by m t h ok k e =
     record { eight = h .eight; sound = subst SoundTable (sym (h .same)) ok; counted = e ∙ ap sends (sym (h .same)) }
+
+-- and gathered again
+pub sound-by : (m : Memory) (t : Table) → Holds m t → (k : ℕ) → Lent m k → SoundTable (table t)
+sound-by m t h k l = subst SoundTable (h .same) (l .sound)

@@ -40,9 +40,9 @@ pub fn scatter(
     ensures { λ _. ⌜ Holds (memory (now (n .exit)) (now (pos .exit)) (now (q .exit)) (now (black .exit)) (now (closed .exit)) (now (active .exit)) (now (color .exit)) (now (sent .exit)) (now (received .exit)) (now (pending .exit))) t ⌝ }
 {
     let rings = t.rings;
-    let mut u: usize = 0;
-    while u < UPDATES {
-        let ring = rings[u];
+    let mut v: usize = 0;
+    while v < UPDATES {
+        let ring = rings[v];
         table_start::store_ring(
             n,
             pos,
@@ -54,10 +54,10 @@ pub fn scatter(
             sent,
             received,
             pending,
-            u,
+            v,
             ring,
         );
-        u += 1;
+        v += 1;
     }
 }
 

@@ -9,13 +9,13 @@ use Rattle.table_columns.proofs.scatter.Statement.{statement}
 use Rattle.table_columns.proofs.scatter.Tie as tie
 
 abbrev Inv-loop : tie.InvT-loop
-Inv-loop n₀ pos₀ q₀ black₀ closed₀ active₀ color₀ sent₀ received₀ pending₀ rings u₀ n pos q black closed active color sent received pending u = Alike (memory n pos q black closed active color sent received pending) rings u
+Inv-loop n₀ pos₀ q₀ black₀ closed₀ active₀ color₀ sent₀ received₀ pending₀ rings v₀ n pos q black closed active color sent received pending v = Alike (memory n pos q black closed active color sent received pending) rings v
 
 abbrev μ-loop : tie.MeasureT-loop
-μ-loop n₀ pos₀ q₀ black₀ closed₀ active₀ color₀ sent₀ received₀ pending₀ rings u₀ n pos q black closed active color sent received pending u = 8 - u
+μ-loop n₀ pos₀ q₀ black₀ closed₀ active₀ color₀ sent₀ received₀ pending₀ rings v₀ n pos q black closed active color sent received pending v = 8 - v
 
 loop-holds : tie.Need-loop-holds Inv-loop μ-loop
-loop-holds c = record { inside = omega arith; eight = c .before .pre; places = sym (length-map (c .before .args .t .rings) _) ∙ c .before .good .0 .1 .1 .0 .1 .0 .1; each = λ v d h. absurd (omega arith) }
+loop-holds c = record { inside = omega arith; eight = c .before .pre; places = sym (length-map (c .before .args .t .rings) _) ∙ c .before .good .0 .1 .1 .0 .1 .0 .1; each = λ w d h. absurd (omega arith) }
 
 mul-ring : tie.Need-mul-ring Inv-loop μ-loop
 mul-ring c = search needs
@@ -26,14 +26,14 @@ array-copy-out-ring c = search needs
 store-ring-requires : tie.Need-store-ring-requires Inv-loop μ-loop
 store-ring-requires c κs = search needs
 
-add-u : tie.Need-add-u Inv-loop μ-loop
-add-u c = search needs
+add-v : tie.Need-add-v Inv-loop μ-loop
+add-v c = search needs
 
 loop-less : tie.Need-loop-less Inv-loop μ-loop
 loop-less c = search needs
 
 loop-again : tie.Need-loop-again Inv-loop μ-loop
-loop-again c = subst (λ (m : Memory). Alike m (c .before .before .before .before .before .before .before .before .before .before .before .before .before .before .before .args .t .rings) (c .before .before .before .before .before .before .before .before .before .before .before .before .before .loop .u + 1)) (sym (c .store-ring .ensures)) (stored _ _ _ (omega arith) (c .before .before .before .before .before .before .before .before .before .before .before .before .before .loop .inv) _)
+loop-again c = subst (λ (m : Memory). Alike m (c .before .before .before .before .before .before .before .before .before .before .before .before .before .before .before .args .t .rings) (c .before .before .before .before .before .before .before .before .before .before .before .before .before .loop .v + 1)) (sym (c .store-ring .ensures)) (stored _ _ _ (omega arith) (c .before .before .before .before .before .before .before .before .before .before .before .before .before .loop .inv) _)
 
 returns : tie.Need-returns Inv-loop μ-loop
 returns c = held _ _ (subst (Alike _ _) (omega arith) (c .before .loop .inv))
@@ -48,7 +48,7 @@ scatter-spec =
     mul-ring
     array-copy-out-ring
     store-ring-requires
-    add-u
+    add-v
     loop-less
     loop-again
     returns)
