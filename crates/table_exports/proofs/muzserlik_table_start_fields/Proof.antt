@@ -46,7 +46,7 @@ returns-2 c =
     let start = at-if1 .before .before .before .before .before .before .before in
     let m = lentTable (start .args .n .now) (start .args .pos .now) (start .args .q .now) (start .args .black .now) (start .args .closed .now) (start .args .active .now) (start .args .color .now) (start .args .sent .now) (start .args .received .now) (start .args .pending .now) in
     let a = Start (start .args .u) (start .args .nodes) (start .args .flags .now) in
-    let p = at-start .start .ensures ∙ ap (λ (t : Table). answerOn t a) (at-gathered .gathered .ensures) in
+    let p = at-start .start .ensures .told ∙ ap (λ (t : Table). answerOn t a) (at-gathered .gathered .ensures) in
     let f = told-true (at-if1 .before .all-flags .ensures) (at-if1 .if1 .left) in
     table-refused m a (answer (at-start .start .result)) p f (c .before .enum-told2 .given .1) (c .code .ensures)
 
@@ -59,7 +59,7 @@ one-of-requires c κs =
     let start = at-if1 .before .before .before .before .before .before .before in
     let m = lentTable (start .args .n .now) (start .args .pos .now) (start .args .q .now) (start .args .black .now) (start .args .closed .now) (start .args .active .now) (start .args .color .now) (start .args .sent .now) (start .args .received .now) (start .args .pending .now) in
     let a = Start (start .args .u) (start .args .nodes) (start .args .flags .now) in
-    let p = at-start .start .ensures ∙ ap (λ (t : Table). answerOn t a) (at-gathered .gathered .ensures) in
+    let p = at-start .start .ensures .told ∙ ap (λ (t : Table). answerOn t a) (at-gathered .gathered .ensures) in
     let f = told-true (at-if1 .before .all-flags .ensures) (at-if1 .if1 .left) in
     table-inside m a (answer (at-start .start .result)) p f (c .before .before .enum-told .given .1)
 
@@ -72,7 +72,7 @@ scatter-requires c κs =
     let start = at-if1 .before .before .before .before .before .before .before in
     let m = lentTable (start .args .n .now) (start .args .pos .now) (start .args .q .now) (start .args .black .now) (start .args .closed .now) (start .args .active .now) (start .args .color .now) (start .args .sent .now) (start .args .received .now) (start .args .pending .now) in
     let a = Start (start .args .u) (start .args .nodes) (start .args .flags .now) in
-    let p = at-start .start .ensures ∙ ap (λ (t : Table). answerOn t a) (at-gathered .gathered .ensures) in
+    let p = at-start .start .ensures .told ∙ ap (λ (t : Table). answerOn t a) (at-gathered .gathered .ensures) in
     let f = told-true (at-if1 .before .all-flags .ensures) (at-if1 .if1 .left) in
     table-inside m a (answer (at-start .start .result)) p f (c .before .before .before .before .before .before .before .before .before .before .before .before .before .enum-told .given .1)
 
@@ -85,7 +85,7 @@ returns-3 c =
     let start = at-if1 .before .before .before .before .before .before .before in
     let m = lentTable (start .args .n .now) (start .args .pos .now) (start .args .q .now) (start .args .black .now) (start .args .closed .now) (start .args .active .now) (start .args .color .now) (start .args .sent .now) (start .args .received .now) (start .args .pending .now) in
     let a = Start (start .args .u) (start .args .nodes) (start .args .flags .now) in
-    let p = at-start .start .ensures ∙ ap (λ (t : Table). answerOn t a) (at-gathered .gathered .ensures) in
+    let p = at-start .start .ensures .told ∙ ap (λ (t : Table). answerOn t a) (at-gathered .gathered .ensures) in
     let f = told-true (at-if1 .before .all-flags .ensures) (at-if1 .if1 .left) in
     table-accepted m a (answer (at-start .start .result)) p f (c .before .before .before .before .before .before .before .before .before .before .before .before .before .before .enum-told .given .1) (state (c .before .before .before .before .before .before .before .before .before .before .before .one-of .result)) (c .before .before .before .before .before .before .before .before .before .before .before .one-of .ensures) (c .scatter .ensures)
 

@@ -50,7 +50,7 @@ returns-2 c =
     let start = at-if1 .before .before .before .before .before .before in
     let m = lentTable (start .args .n .now) (start .args .pos .now) (start .args .q .now) (start .args .black .now) (start .args .closed .now) (start .args .active .now) (start .args .color .now) (start .args .sent .now) (start .args .received .now) (start .args .pending .now) in
     let a = stepAsk (start .args .u) (start .args .kind) (start .args .i) (start .args .j) in
-    let p = at-step .step .ensures ∙ ap (λ (t : Table). answerOn t (stepAsk (start .args .u) (at-kind .kind-byte .result) (start .args .i) (start .args .j))) (at-gathered .gathered .ensures)
+    let p = at-step .step .ensures .told ∙ ap (λ (t : Table). answerOn t (stepAsk (start .args .u) (at-kind .kind-byte .result) (start .args .i) (start .args .j))) (at-gathered .gathered .ensures)
     ∙ table-kind-same (tableIn m) (start .args .u) _ (start .args .kind) (start .args .i) (start .args .j) (at-kind .kind-byte .ensures) in
     let f = told-true (at-if1 .before .all-flags .ensures) (at-if1 .if1 .left) in
     table-refused m a (answer (at-step .step .result)) p f (c .before .enum-told2 .given .1) (c .code .ensures)
@@ -65,7 +65,7 @@ one-of-requires c κs =
     let start = at-if1 .before .before .before .before .before .before in
     let m = lentTable (start .args .n .now) (start .args .pos .now) (start .args .q .now) (start .args .black .now) (start .args .closed .now) (start .args .active .now) (start .args .color .now) (start .args .sent .now) (start .args .received .now) (start .args .pending .now) in
     let a = stepAsk (start .args .u) (start .args .kind) (start .args .i) (start .args .j) in
-    let p = at-step .step .ensures ∙ ap (λ (t : Table). answerOn t (stepAsk (start .args .u) (at-kind .kind-byte .result) (start .args .i) (start .args .j))) (at-gathered .gathered .ensures)
+    let p = at-step .step .ensures .told ∙ ap (λ (t : Table). answerOn t (stepAsk (start .args .u) (at-kind .kind-byte .result) (start .args .i) (start .args .j))) (at-gathered .gathered .ensures)
     ∙ table-kind-same (tableIn m) (start .args .u) _ (start .args .kind) (start .args .i) (start .args .j) (at-kind .kind-byte .ensures) in
     let f = told-true (at-if1 .before .all-flags .ensures) (at-if1 .if1 .left) in
     table-inside m a (answer (at-step .step .result)) p f (c .before .before .enum-told .given .1)
@@ -80,7 +80,7 @@ scatter-requires c κs =
     let start = at-if1 .before .before .before .before .before .before in
     let m = lentTable (start .args .n .now) (start .args .pos .now) (start .args .q .now) (start .args .black .now) (start .args .closed .now) (start .args .active .now) (start .args .color .now) (start .args .sent .now) (start .args .received .now) (start .args .pending .now) in
     let a = stepAsk (start .args .u) (start .args .kind) (start .args .i) (start .args .j) in
-    let p = at-step .step .ensures ∙ ap (λ (t : Table). answerOn t (stepAsk (start .args .u) (at-kind .kind-byte .result) (start .args .i) (start .args .j))) (at-gathered .gathered .ensures)
+    let p = at-step .step .ensures .told ∙ ap (λ (t : Table). answerOn t (stepAsk (start .args .u) (at-kind .kind-byte .result) (start .args .i) (start .args .j))) (at-gathered .gathered .ensures)
     ∙ table-kind-same (tableIn m) (start .args .u) _ (start .args .kind) (start .args .i) (start .args .j) (at-kind .kind-byte .ensures) in
     let f = told-true (at-if1 .before .all-flags .ensures) (at-if1 .if1 .left) in
     table-inside m a (answer (at-step .step .result)) p f (c .before .before .before .before .before .before .before .before .before .before .before .before .before .enum-told .given .1)
@@ -95,7 +95,7 @@ returns-3 c =
     let start = at-if1 .before .before .before .before .before .before in
     let m = lentTable (start .args .n .now) (start .args .pos .now) (start .args .q .now) (start .args .black .now) (start .args .closed .now) (start .args .active .now) (start .args .color .now) (start .args .sent .now) (start .args .received .now) (start .args .pending .now) in
     let a = stepAsk (start .args .u) (start .args .kind) (start .args .i) (start .args .j) in
-    let p = at-step .step .ensures ∙ ap (λ (t : Table). answerOn t (stepAsk (start .args .u) (at-kind .kind-byte .result) (start .args .i) (start .args .j))) (at-gathered .gathered .ensures)
+    let p = at-step .step .ensures .told ∙ ap (λ (t : Table). answerOn t (stepAsk (start .args .u) (at-kind .kind-byte .result) (start .args .i) (start .args .j))) (at-gathered .gathered .ensures)
     ∙ table-kind-same (tableIn m) (start .args .u) _ (start .args .kind) (start .args .i) (start .args .j) (at-kind .kind-byte .ensures) in
     let f = told-true (at-if1 .before .all-flags .ensures) (at-if1 .if1 .left) in
     table-accepted m a (answer (at-step .step .result)) p f (c .before .before .before .before .before .before .before .before .before .before .before .before .before .before .enum-told .given .1) (state (c .before .before .before .before .before .before .before .before .before .before .before .one-of .result)) (c .before .before .before .before .before .before .before .before .before .before .before .one-of .ensures) (c .scatter .ensures)
