@@ -21,7 +21,7 @@ use Rattle.log_rules.proofs.First.{update-verdict}
 use Rattle.log_rules.proofs.InPlace.{table-in-place, went-line, went-none, went-then}
 use Rattle.log_rules.specs.Answers.{Told, addAt, answerBytes, answerText, isMove, lineTold, onTable, ringRequest, tableTold, updateAsk, updateStartTold, updateStepTold, updateTable}
 use Rattle.log_rules.specs.Lines.{lineLimit}
-use Rattle.log_rules.specs.Pieces.{OneLine, Onward}
+use Rattle.log_rules.specs.Pieces.{NoMore, OneLine, Onward}
 use Rattle.log_text.proofs.Texts.{answer-short}
 use Rattle.log_text.specs.Wrote.{Wrote}
 use Rattle.refusal.specs.Table.{_⟶_, firstOf, isAccepted, settle}
@@ -29,13 +29,16 @@ use Rattle.refusal.specs.declared.Refusal.the-variants.{NodeCount, NotAForm, Un
 use Rattle.refusal.specs.declared.Verdict.{Verdict}
 use Rattle.refusal.specs.declared.Verdict.the-variants.{Accepted, Refused}
 use Rattle.runs.specs.Runs.{Request}
+use Rattle.table_columns.proofs.Laws.{sound-by}
+use Rattle.table_columns.specs.Columns.{Holds}
 use Rattle.table_rules.specs.Answers.{Step, TableAnswer, after, answerOn}
 use Rattle.table_rules.specs.Table.{Table, fixed}
 use Rattle.table_steps.specs.Memory.{Lent, Memory, StepDone, tableOf}
 use Rattle.update_forms.specs.Read.{updateLineOf, wrappedAt, wrappedSeen}
 use Rattle.update_forms.specs.Wrapped.{Wrapped}
 use Rattle.update_forms.specs.declared.UpdateFirst.{UpdateFirst}
-use Rattle.log_table.specs.Run.{Inside, LineAnswered, Moves, StartTold, TableWent, barredTable, isRing}
+use Rattle.log_table.specs.Run.{Inside, LineAnswered, LinesFed, Moves, StartTold, TableWent, barredTable, isRing}
+use Rattle.log_table.specs.declared.TableFed.{TableFed}
 use Rattle.log_table.specs.declared.TableRun.{TableRun}
 use Rattle.first_line.specs.Start as first
 use Rattle.update_forms.specs.declared.UpdateLine.the-variants as lines
@@ -267,4 +270,16 @@ run-none r m ms piece out f = record {
   went = went-none (onTable (tableOf m) ms) (r .lines) (r .next) (r .at) piece out (f .inside) (f .most);
   lent = f .lent;
   moves = f .moves;
+}
+
+-- the table by value
+pub fed-by : {r t : TableRun} {m m′ : Memory} {t₀ : Table} {ms ms′ piece out out′ : List ℕ} (f : TableFed) → tableOf m ≡ t₀ → Holds m′ (f .table)
+    → f .moves ≡ ms′ → f .lines ≡ t .lines → f .next ≡ t .next → f .at ≡ t .at
+    → TableWent r t m m′ ms ms′ piece out out′ → NoMore (t .lines) (t .next) piece
+    → LinesFed t₀ ms (r .lines) piece (r .next) out (r .at) f out′
+fed-by {t = t} {m′ = m′} f first last c l n a w no-more = record {
+  went = rw (← first, ← last .same, c, l, n, a) (w .went);
+  sound = sound-by m′ (f .table) last (t .sends) (w .lent);
+  moves = rw (c, l) (w .moves);
+  spent = rw (l, n) no-more;
 }

@@ -14,11 +14,13 @@ use Rattle.log_text.specs.Wrote.{Wrote}
 use Rattle.refusal.specs.Table.{Row, _⟶_, firstOf, settle}
 use Rattle.refusal.specs.declared.Refusal.the-variants.{NodeCount, UnknownNode, UnknownUpdate}
 use Rattle.refusal.specs.declared.Verdict.{Verdict}
+use Rattle.table.specs.View.{table}
 use Rattle.table_rules.specs.Answers.{after}
 use Rattle.table_rules.specs.Soundness.{SoundTable}
 use Rattle.table_steps.specs.Memory.{Lent, Memory, tableOf}
 use Rattle.update_forms.specs.Read.{updateLineOf, wrappedAt}
 use Rattle.update_forms.specs.declared.UpdateLine.the-variants.{NotAForm}
+use Rattle.log_table.specs.declared.TableFed.{TableFed}
 use Rattle.log_table.specs.declared.TableRun.{TableRun}
 use Rattle.first_line.specs.declared.FirstKind.the-variants as kinds
 use Rattle.table_rules.specs.Table as rules
@@ -89,3 +91,10 @@ pub record TableWent (r t : TableRun) (m m′ : Memory) (ms ms′ piece out out�
   pub went : Went (onTable (tableOf m) ms) (onTable (tableOf m′) ms′) (r .lines) (t .lines) (r .next) (t .next) (r .at) (t .at) piece out out′
   pub lent : Lent m′ (t .sends)
   pub moves : Moves ms′ (t .lines)
+
+-- all lines of the piece that are whole are answered
+pub record LinesFed (t : rules.Table) (ms : List ℕ) (lines : ℕ) (piece : List ℕ) (from : ℕ) (out : List ℕ) (at : ℕ) (f : TableFed) (out′ : List ℕ) : Type 0 where
+  pub went : Went (onTable t ms) (onTable (table (f .table)) (f .moves)) lines (f .lines) from (f .next) at (f .at) piece out out′
+  pub sound : SoundTable (table (f .table))
+  pub moves : Moves (f .moves) (f .lines)
+  pub spent : NoMore (f .lines) (f .next) piece

@@ -12,6 +12,10 @@ use refusal::RING_NODES;
 use refusal::Refusal;
 use refusal::UPDATES;
 use refusal::Verdict;
+use table::Table;
+use table_columns::count_sends;
+use table_columns::gather;
+use table_columns::scatter;
 use table_start::fixed_of;
 use table_start::is_other;
 use table_steps::Done;
@@ -29,12 +33,22 @@ ghost use Rattle.log_text.specs.Wrote.{Wrote};
 ghost use Rattle.refusal.specs.Table.{firstOf, settle};
 ghost use Rattle.table_steps.specs.Memory.{memory, Lent, tableOf};
 ghost use Rattle.table_start.specs.Fixed.{fixedIn};
-ghost use Rattle.log_table.specs.Run.{barredTable, isRing, StartTold, NoStep, Ready, LineAnswered, Inside, TableWent};
+ghost use Rattle.table.specs.View as tableView;
+ghost use Rattle.log_table.specs.Run.{barredTable, isRing, StartTold, NoStep, Ready, LineAnswered, Inside, TableWent, Fits, LinesFed};
 
 // Where a run stands: the sends of the eight, the lines answered, the index of the next line in the piece, and of the next answer in the
 // buffer.
 pub struct TableRun {
     pub sends: u64,
+    pub lines: u64,
+    pub next: usize,
+    pub at: usize,
+}
+
+// The same with the table by value, and the accepted token moves of each update.
+pub struct TableFed {
+    pub table: Table,
+    pub moves: [u64; UPDATES],
     pub lines: u64,
     pub next: usize,
     pub at: usize,
@@ -431,4 +445,85 @@ fn run_lines(
         r = t;
     }
     r
+}
+
+// The same with the table by value: it is stored in columns, and gathered from them again.
+pub fn table_piece(
+    table: Table,
+    moves: [u64; UPDATES],
+    lines: u64,
+    piece: &[u8],
+    from: usize,
+    out: &mut [u8],
+    at: usize,
+) -> TableFed
+    requires { ⌜ Fits (tableView.table table) moves lines (now piece) from (now out) at ⌝ }
+    ensures { λ f. ⌜ LinesFed (tableView.table table) moves lines (now (piece .entry)) from (now (out .entry)) at f (now (out .exit)) ⌝ }
+{
+    let sends = count_sends(table);
+    let mut n = [0usize; UPDATES];
+    let mut pos = [0usize; UPDATES];
+    let mut q = [0i64; UPDATES];
+    let mut black = [false; UPDATES];
+    let mut closed = [false; UPDATES];
+    let mut active = [[false; RING_NODES]; UPDATES];
+    let mut color = [[0u8; COLOR_BYTES]; UPDATES];
+    let mut sent = [[0u32; RING_NODES]; UPDATES];
+    let mut received = [[0u32; RING_NODES]; UPDATES];
+    let mut pending = [[0u32; RING_NODES]; UPDATES];
+    scatter(
+        table,
+        &mut n,
+        &mut pos,
+        &mut q,
+        &mut black,
+        &mut closed,
+        &mut active,
+        &mut color,
+        &mut sent,
+        &mut received,
+        &mut pending,
+    );
+    let mut counts = moves;
+    let first = TableRun {
+        sends,
+        lines,
+        next: from,
+        at,
+    };
+    let t = run_lines(
+        first,
+        &mut n,
+        &mut pos,
+        &mut q,
+        &mut black,
+        &mut closed,
+        &mut active,
+        &mut color,
+        &mut sent,
+        &mut received,
+        &mut pending,
+        &mut counts,
+        piece,
+        out,
+    );
+    let last = gather(
+        &n,
+        &pos,
+        &q,
+        &black,
+        &closed,
+        &active,
+        &color,
+        &sent,
+        &received,
+        &pending,
+    );
+    TableFed {
+        table: last,
+        moves: counts,
+        lines: t.lines,
+        next: t.next,
+        at: t.at,
+    }
 }
