@@ -10,12 +10,12 @@ use Rattle.log_text.specs.Wrote.{Wrote}
 abbrev pub Short : List ℕ → ℕ → List ℕ → ℕ → List ℕ → Type 0
 Short out at text r out′ = Wrote out at text r out′ × (length text ≤ 256)
 
--- the end line of a ring by its five numbers
-abbrev pub ringText : ℕ → ℕ → ℕ → ℕ → ℕ → List ℕ
-ringText n holder m flight black =
+-- the end line of a ring by its last bytes and its five numbers
+abbrev pub ringText : List ℕ → ℕ → ℕ → ℕ → ℕ → ℕ → List ℕ
+ringText last n holder m flight black =
     bytes "(end (boards "
     ++ (decimal n
     ++ (bytes ") (holder "
     ++ (decimal holder
     ++ (bytes ") (moves "
-    ++ (decimal m ++ (bytes ") (flight " ++ (decimal flight ++ (bytes ") (black " ++ (decimal black ++ bytes "))\n")))))))))
+    ++ (decimal m ++ (bytes ") (flight " ++ (decimal flight ++ (bytes ") (black " ++ (decimal black ++ last)))))))))

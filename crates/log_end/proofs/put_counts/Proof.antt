@@ -13,8 +13,8 @@ slice-aggregate-put-item c = search needs
 
 put-item-requires : tie.Need-put-item-requires
 put-item-requires c κs =
-    let start = c .before .before .before in
-    omega (arith, start .pre, item-short (bytes "(end (boards ") (start .args .n) (omega arith) (omega (arith, start .good)))
+    let start = c .before .before .before .before in
+    omega (arith, start .pre .0, item-short (bytes "(end (boards ") (start .args .n) (omega arith) (omega (arith, start .good)))
 
 slice-aggregate-put-item-2 : tie.Need-slice-aggregate-put-item-2
 slice-aggregate-put-item-2 c = search needs
@@ -22,10 +22,11 @@ slice-aggregate-put-item-2 c = search needs
 put-item-requires-2 : tie.Need-put-item-requires-2
 put-item-requires-2 c κs =
     let at-put-item = c .before .before .before .before in
-    let start = at-put-item .before .before .before .before in
+    let start = at-put-item .before .before .before .before .before in
     omega (
       arith,
-      start .pre,
+      start .pre .0,
+      start .pre .1,
       item-short (bytes "(end (boards ") (start .args .n) (omega arith) (omega (arith, start .good)),
       item-short (bytes ") (holder ") (start .args .pos) (omega arith) (omega (arith, start .good)),
       at-put-item .put-item .kept .0,
@@ -39,10 +40,11 @@ put-item-requires-3 : tie.Need-put-item-requires-3
 put-item-requires-3 c κs =
     let at-put-item2 = c .before .before .before .before in
     let at-put-item = at-put-item2 .before .before .before .before .before in
-    let start = at-put-item .before .before .before .before in
+    let start = at-put-item .before .before .before .before .before in
     omega (
       arith,
-      start .pre,
+      start .pre .0,
+      start .pre .1,
       item-short (bytes "(end (boards ") (start .args .n) (omega arith) (omega (arith, start .good)),
       item-short (bytes ") (holder ") (start .args .pos) (omega arith) (omega (arith, start .good)),
       item-short (bytes ") (moves ") (start .args .moves) (omega arith) (omega (arith, start .good)),
@@ -60,10 +62,11 @@ put-item-requires-4 c κs =
     let at-put-item3 = c .before .before .before .before in
     let at-put-item2 = at-put-item3 .before .before .before .before .before in
     let at-put-item = at-put-item2 .before .before .before .before .before in
-    let start = at-put-item .before .before .before .before in
+    let start = at-put-item .before .before .before .before .before in
     omega (
       arith,
-      start .pre,
+      start .pre .0,
+      start .pre .1,
       item-short (bytes "(end (boards ") (start .args .n) (omega arith) (omega (arith, start .good)),
       item-short (bytes ") (holder ") (start .args .pos) (omega arith) (omega (arith, start .good)),
       item-short (bytes ") (moves ") (start .args .moves) (omega arith) (omega (arith, start .good)),
@@ -85,10 +88,11 @@ put-item-requires-5 c κs =
     let at-put-item3 = at-put-item4 .before .before .before .before .before in
     let at-put-item2 = at-put-item3 .before .before .before .before .before in
     let at-put-item = at-put-item2 .before .before .before .before .before in
-    let start = at-put-item .before .before .before .before in
+    let start = at-put-item .before .before .before .before .before in
     omega (
       arith,
-      start .pre,
+      start .pre .0,
+      start .pre .1,
       item-short (bytes "(end (boards ") (start .args .n) (omega arith) (omega (arith, start .good)),
       item-short (bytes ") (holder ") (start .args .pos) (omega arith) (omega (arith, start .good)),
       item-short (bytes ") (moves ") (start .args .moves) (omega arith) (omega (arith, start .good)),
@@ -104,20 +108,18 @@ put-item-requires-5 c κs =
       at-put-item4 .put-item4 .ensures .0,
     )
 
-slice-aggregate-put-word : tie.Need-slice-aggregate-put-word
-slice-aggregate-put-word c = search needs
-
 put-word-requires : tie.Need-put-word-requires
 put-word-requires c κs =
-    let at-put-item5 = c .before .before .before .before in
+    let at-put-item5 = c .before .before .before in
     let at-put-item4 = at-put-item5 .before .before .before .before .before in
     let at-put-item3 = at-put-item4 .before .before .before .before .before in
     let at-put-item2 = at-put-item3 .before .before .before .before .before in
     let at-put-item = at-put-item2 .before .before .before .before .before in
-    let start = at-put-item .before .before .before .before in
+    let start = at-put-item .before .before .before .before .before in
     omega (
       arith,
-      start .pre,
+      start .pre .0,
+      start .pre .1,
       item-short (bytes "(end (boards ") (start .args .n) (omega arith) (omega (arith, start .good)),
       item-short (bytes ") (holder ") (start .args .pos) (omega arith) (omega (arith, start .good)),
       item-short (bytes ") (moves ") (start .args .moves) (omega arith) (omega (arith, start .good)),
@@ -140,46 +142,47 @@ same-length c = search needs
 
 returns : tie.Need-returns
 returns c =
-    let at-put-item5 = c .before .before .before .before .before .before .before in
+    let at-put-item5 = c .before .before .before .before .before .before in
     let at-put-item4 = at-put-item5 .before .before .before .before .before in
     let at-put-item3 = at-put-item4 .before .before .before .before .before in
     let at-put-item2 = at-put-item3 .before .before .before .before .before in
     let at-put-item = at-put-item2 .before .before .before .before .before in
-    let start = at-put-item .before .before .before .before in
+    let start = at-put-item .before .before .before .before .before in
     let a = start .args in (
       (item-wrote (bytes "(end (boards ") (a .n)
           (bytes ") (holder " ++
           (decimal (a .pos) ++
           (bytes ") (moves " ++
-          (decimal (a .moves) ++ (bytes ") (flight " ++ (decimal (a .flight) ++ (bytes ") (black " ++ (decimal (a .black) ++ bytes "))\n"))))))))
+          (decimal (a .moves) ++ (bytes ") (flight " ++ (decimal (a .flight) ++ (bytes ") (black " ++ (decimal (a .black) ++ a .last .now))))))))
           (a .out .now) (a .at) (at-put-item .put-item .ensures)
           (item-wrote (bytes ") (holder ") (a .pos)
           (bytes ") (moves " ++
-          (decimal (a .moves) ++ (bytes ") (flight " ++ (decimal (a .flight) ++ (bytes ") (black " ++ (decimal (a .black) ++ bytes "))\n")))))) _ _
+          (decimal (a .moves) ++ (bytes ") (flight " ++ (decimal (a .flight) ++ (bytes ") (black " ++ (decimal (a .black) ++ a .last .now)))))) _ _
           (at-put-item2 .put-item2 .ensures)
           (item-wrote (bytes ") (moves ") (a .moves)
-          (bytes ") (flight " ++ (decimal (a .flight) ++ (bytes ") (black " ++ (decimal (a .black) ++ bytes "))\n")))) _ _
+          (bytes ") (flight " ++ (decimal (a .flight) ++ (bytes ") (black " ++ (decimal (a .black) ++ a .last .now)))) _ _
           (at-put-item3 .put-item3 .ensures)
-          (item-wrote (bytes ") (flight ") (a .flight) (bytes ") (black " ++ (decimal (a .black) ++ bytes "))\n")) _ _ (at-put-item4 .put-item4 .ensures)
-          (item-wrote (bytes ") (black ") (a .black) (bytes "))\n") _ _ (at-put-item5 .put-item5 .ensures) (c .before .before .put-word .ensures)))))),
+          (item-wrote (bytes ") (flight ") (a .flight) (bytes ") (black " ++ (decimal (a .black) ++ a .last .now)) _ _ (at-put-item4 .put-item4 .ensures)
+          (item-wrote (bytes ") (black ") (a .black) (a .last .now) _ _ (at-put-item5 .put-item5 .ensures) (c .before .before .put-word .ensures)))))),
       omega (
         arith,
+        start .pre .1,
         item-length (bytes "(end (boards ") (a .n)
             (bytes ") (holder " ++
             (decimal (a .pos) ++
             (bytes ") (moves " ++
-            (decimal (a .moves) ++ (bytes ") (flight " ++ (decimal (a .flight) ++ (bytes ") (black " ++ (decimal (a .black) ++ bytes "))\n")))))))),
+            (decimal (a .moves) ++ (bytes ") (flight " ++ (decimal (a .flight) ++ (bytes ") (black " ++ (decimal (a .black) ++ a .last .now)))))))),
         item-short (bytes "(end (boards ") (a .n) (omega arith) (omega (arith, start .good)),
         item-length (bytes ") (holder ") (a .pos)
             (bytes ") (moves " ++
-            (decimal (a .moves) ++ (bytes ") (flight " ++ (decimal (a .flight) ++ (bytes ") (black " ++ (decimal (a .black) ++ bytes "))\n")))))),
+            (decimal (a .moves) ++ (bytes ") (flight " ++ (decimal (a .flight) ++ (bytes ") (black " ++ (decimal (a .black) ++ a .last .now)))))),
         item-short (bytes ") (holder ") (a .pos) (omega arith) (omega (arith, start .good)),
         item-length (bytes ") (moves ") (a .moves)
-            (bytes ") (flight " ++ (decimal (a .flight) ++ (bytes ") (black " ++ (decimal (a .black) ++ bytes "))\n")))),
+            (bytes ") (flight " ++ (decimal (a .flight) ++ (bytes ") (black " ++ (decimal (a .black) ++ a .last .now)))),
         item-short (bytes ") (moves ") (a .moves) (omega arith) (omega (arith, start .good)),
-        item-length (bytes ") (flight ") (a .flight) (bytes ") (black " ++ (decimal (a .black) ++ bytes "))\n")),
+        item-length (bytes ") (flight ") (a .flight) (bytes ") (black " ++ (decimal (a .black) ++ a .last .now)),
         item-short (bytes ") (flight ") (a .flight) (omega arith) (omega (arith, start .good)),
-        item-length (bytes ") (black ") (a .black) (bytes "))\n"),
+        item-length (bytes ") (black ") (a .black) (a .last .now),
         item-short (bytes ") (black ") (a .black) (omega arith) (omega (arith, start .good)),
       ),
     )
@@ -198,7 +201,6 @@ put-counts-spec =
     put-item-requires-4
     slice-aggregate-put-item-5
     put-item-requires-5
-    slice-aggregate-put-word
     put-word-requires
     same-length
     returns)

@@ -1,7 +1,7 @@
 use borrow.Author.Needs.{needs}
 use Rattle.ring_rules.specs.State.{blackNodes, inTransit}
-use Rattle.log_end.proofs.put_ring_end.Statement.{statement}
-use Rattle.log_end.proofs.put_ring_end.Tie as tie
+use Rattle.log_end.proofs.put_ring.Statement.{statement}
+use Rattle.log_end.proofs.put_ring.Tie as tie
 
 sum-to-requires : tie.Need-sum-to-requires
 sum-to-requires c κs = search needs
@@ -22,8 +22,8 @@ returns : tie.Need-returns
 unfolding blackNodes inTransit
 returns c = rw (← c .before .before .before .before .before .before .sum-to .ensures .0, ← c .before .before .before .before .count-black .ensures) (c .before .before .put-counts .ensures)
 
-pub put-ring-end-spec : {M : Type 1} → statement M
-put-ring-end-spec =
+pub put-ring-spec : {M : Type 1} → statement M
+put-ring-spec =
     tie.close
     (tie.spec
     sum-to-requires
