@@ -1,7 +1,7 @@
 -- Document 01, "The log program": a log that comes in pieces, cut anywhere.
 use Prim.Native.Nat.{_*_, _+_, _≤_, ℕ}
 use lib.Dec.{eqb, leb}
-use lib.ListN.{drop, length, replicate, take}
+use lib.ListN.{drop, getD, length, replicate, take}
 use mathlib.Core.Bool.{Bool, cond, false, true}
 use mathlib.Core.List.{List, [], _++_, _∷_}
 use mathlib.Core.Path.{_≡_}
@@ -35,6 +35,11 @@ longBytes = lineBytes + 1
 -- what a buffer holds of the next line: its first `len` bytes; so many zeros stand for every line that is too long already
 abbrev pub heldOf : List ℕ → ℕ → List ℕ
 heldOf line len = cond (leb len lineBytes) (take len line) (replicate longBytes 0)
+
+-- the moves of the eight updates, none more than the lines that are answered
+pub record Moves (ms : List ℕ) (lines : ℕ) : Type 0 where
+  pub places : length ms ≡ 8
+  pub few : (u : ℕ) → getD ms u 0 ≤ lines
 
 -- the answer to a line that says no form
 abbrev pub notTold : Stage → ℕ → Told

@@ -21,7 +21,7 @@ use Rattle.log_rules.proofs.First.{update-verdict}
 use Rattle.log_rules.proofs.InPlace.{table-in-place, went-line, went-none, went-then}
 use Rattle.log_rules.specs.Answers.{Told, addAt, answerBytes, answerText, isMove, lineTold, onTable, ringRequest, tableTold, updateAsk, updateStartTold, updateStepTold, updateTable}
 use Rattle.log_rules.specs.Lines.{lineLimit}
-use Rattle.log_rules.specs.Pieces.{NoMore, OneLine, Onward}
+use Rattle.log_rules.specs.Pieces.{Moves, NoMore, OneLine, Onward}
 use Rattle.log_text.proofs.Texts.{answer-short}
 use Rattle.log_text.specs.Wrote.{Wrote}
 use Rattle.refusal.specs.Table.{_⟶_, firstOf, isAccepted, settle}
@@ -37,7 +37,7 @@ use Rattle.table_steps.specs.Memory.{Lent, Memory, StepDone, tableOf}
 use Rattle.update_forms.specs.Read.{updateLineOf, wrappedAt, wrappedSeen}
 use Rattle.update_forms.specs.Wrapped.{Wrapped}
 use Rattle.update_forms.specs.declared.UpdateFirst.{UpdateFirst}
-use Rattle.log_table.specs.Run.{Inside, LineAnswered, LinesFed, Moves, StartTold, TableWent, barredTable, isRing}
+use Rattle.log_table.specs.Run.{Inside, LineAnswered, LinesFed, StartTold, TableWent, barredTable, isRing}
 use Rattle.log_table.specs.declared.TableFed.{TableFed}
 use Rattle.log_table.specs.declared.TableRun.{TableRun}
 use Rattle.first_line.specs.Start as first

@@ -1,7 +1,7 @@
 -- A table's run over a piece of a log.
 use Prim.Native.Nat.{_*_, _+_, _-_, _<_, _≤_, ℕ}
 use lib.Dec.{eqb, leb, ltb}
-use lib.ListN.{getD, length}
+use lib.ListN.{length}
 use mathlib.Core.Bool.{Bool, _&&_, false, not, true}
 use mathlib.Core.List.{List, [], _∷_}
 use mathlib.Core.Path.{_≡_}
@@ -9,7 +9,7 @@ use Rattle.first_line.specs.declared.First.{First}
 use Rattle.first_line.specs.declared.FirstKind.{FirstKind}
 use Rattle.log_rules.specs.Answers.{Told, answerBytes, onTable, updateAsk, updateTable}
 use Rattle.log_rules.specs.Lines.{lineLimit}
-use Rattle.log_rules.specs.Pieces.{NoMore, Went}
+use Rattle.log_rules.specs.Pieces.{Moves, NoMore, Went}
 use Rattle.log_text.specs.Wrote.{Wrote}
 use Rattle.refusal.specs.Table.{Row, _⟶_, firstOf, settle}
 use Rattle.refusal.specs.declared.Refusal.the-variants.{NodeCount, UnknownNode, UnknownUpdate}
@@ -24,11 +24,6 @@ use Rattle.log_table.specs.declared.TableFed.{TableFed}
 use Rattle.log_table.specs.declared.TableRun.{TableRun}
 use Rattle.first_line.specs.declared.FirstKind.the-variants as kinds
 use Rattle.table_rules.specs.Table as rules
-
--- the moves of the eight updates, none more than the lines that are answered
-pub record Moves (ms : List ℕ) (lines : ℕ) : Type 0 where
-  pub places : length ms ≡ 8
-  pub few : (u : ℕ) → getD ms u 0 ≤ lines
 
 -- the rows of a start of too many nodes, or whose lists name a node that there is not, where so many nodes are fixed
 abbrev pub barredTable : ℕ → ℕ → ℕ → List Row

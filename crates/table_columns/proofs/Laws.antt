@@ -12,12 +12,12 @@ use Rattle.laws.proofs.Columns.{any-default}
 use Rattle.ring.specs.View.{state}
 use Rattle.ring.specs.declared.Ring.{Ring}
 use Rattle.ring_rules.specs.State.{State}
-use Rattle.table.specs.View.{emptyTable, slotBy, table}
+use Rattle.table.specs.View.{slotBy, table}
 use Rattle.table.specs.declared.Table.{Table}
 use Rattle.table_columns.specs.Columns.{Holds, columnsOf}
 use Rattle.table_rules.specs.Soundness.{SoundTable}
 use Rattle.table_rules.specs.Table as rules
-use Rattle.table_rules.specs.Table.{NotStarted, Slot, sends, slotOf}
+use Rattle.table_rules.specs.Table.{emptyTable, NotStarted, Slot, sends, slotOf}
 use Rattle.table_start.proofs.Laws.{stored-at, stored-eight, stored-other}
 use Rattle.table_start.specs.Fixed.{storeAll}
 use Rattle.table_steps.proofs.Memory.{table-at, table-places}

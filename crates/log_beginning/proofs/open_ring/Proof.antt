@@ -57,6 +57,9 @@ start-requires c κs = search needs
 blank-tree-requires : tie.Need-blank-tree-requires
 blank-tree-requires c κs = search needs
 
+empty-requires : tie.Need-empty-requires
+empty-requires c κs = search needs
+
 put-answer-requires : tie.Need-put-answer-requires
 put-answer-requires c κs = omega (arith, answer-short 1 Accepted (omega arith))
 
@@ -65,7 +68,7 @@ same-length-4 c = search needs
 
 returns-4 : tie.Need-returns-4
 returns-4 c =
-    let at-start = c .before .before .before .before .before .before in
+    let at-start = c .before .before .before .before .before .before .before in
     let at-if2 = at-start .before .before .before .before .before in
     let start-14 = at-if2 .before .before .before in
     ring-begins (start-14 .args .f) (omega arith) (at-if2 .if2 .left) (start-14 .pre .1) (omega arith) (at-start .start .ensures) refl
@@ -88,6 +91,7 @@ open-ring-spec =
     slice-aggregate-start
     start-requires
     blank-tree-requires
+    empty-requires
     put-answer-requires
     same-length-4
     returns-4)

@@ -28,8 +28,8 @@ open-tree-requires c κs = search needs
 enum-told-3 : tie.Need-enum-told-3
 enum-told-3 c = search needs
 
-refuse-requires : tie.Need-refuse-requires
-refuse-requires c κs = search needs
+open-other-requires : tie.Need-open-other-requires
+open-other-requires c κs = search needs
 
 same-length : tie.Need-same-length
 same-length c = search needs
@@ -62,7 +62,7 @@ returns-3 c =
     let at-read-first = at-enum-told3 .before .before in
     let start = at-read-first .before .before .before in
     let l = start .args .line .now in rw (← run-told l (at-read-first .read-first .ensures .0) (at-enum-told3 .enum-told3 .given .1))
-    (c .before .before .refuse .ensures)
+    (c .before .before .open-other .ensures)
 
 pub open-run-spec : {M : Type 1} → statement M
 open-run-spec =
@@ -74,7 +74,7 @@ open-run-spec =
     enum-told-2
     open-tree-requires
     enum-told-3
-    refuse-requires
+    open-other-requires
     same-length
     returns
     same-length-2

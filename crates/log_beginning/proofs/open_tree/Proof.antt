@@ -16,6 +16,9 @@ enum-told c = search needs
 blank-ring-requires : tie.Need-blank-ring-requires
 blank-ring-requires c κs = search needs
 
+empty-requires : tie.Need-empty-requires
+empty-requires c κs = search needs
+
 put-answer-requires : tie.Need-put-answer-requires
 put-answer-requires c κs = omega (arith, answer-short 1 Accepted (omega arith))
 
@@ -30,7 +33,7 @@ same-length c = search needs
 
 returns : tie.Need-returns
 returns c =
-    let at-enum-told = c .before .before .before .before .before .before in
+    let at-enum-told = c .before .before .before .before .before .before .before in
     let at-start = at-enum-told .before .before in
     let start-10 = at-start .before .before in
     tree-begins (start-10 .args .f) (at-start .start .ensures) (at-enum-told .enum-told .given .1) refl (c .before .before .put-answer .ensures)
@@ -52,6 +55,7 @@ open-tree-spec =
     start-requires
     enum-told
     blank-ring-requires
+    empty-requires
     put-answer-requires
     enum-known-v
     refuse-requires
