@@ -1,19 +1,20 @@
 -- The numbers after a word, and the end of the form: found at a place exactly where their text stands. Assumes nothing.
 use mathlib.Core.Path.{_≡_, refl, sym, ap, _∙_}
-use mathlib.Core.Bool.{Bool, cond, false, true}
-use mathlib.Core.List.{List, _∷_, _++_, append-assoc}
+use mathlib.Core.Bool.{_&&_, Bool, cond, false, true}
+use mathlib.Core.Logic.{⊎-elim}
+use mathlib.Core.List.{List, [], _∷_, _++_, append-assoc}
 use Prim.Native.Nat.{ℕ, _+_, _≤_, _<_}
 use native.Mathlib.Omega.{arith}
-use lib.ListN.{length, getD, drop, length-drop, length-append}
+use lib.ListN.{length, getD, drop, length-drop, length-append, drop-of-length-le, List·getD-eq-default}
 use lib.Dec.{eqb}
-use borrow.Author.Tests.{eq-eqb, eqb-true}
+use borrow.Author.Tests.{eq-eqb, ne-eqb, eqb-true}
 use Rattle.decimal.specs.declared.Num.{Num}
 use Rattle.decimal.specs.declared.Num.the-variants.{Value, Wrong}
 use Rattle.decimal.specs.Bytes.{bytes}
 use Rattle.decimal.specs.Text.{decimal}
 use Rattle.decimal.specs.Word.{starts}
 use Rattle.decimal.specs.Number.{digitB, shortOf}
-use Rattle.decimal.proofs.Cases.{in-text, rest, take-head}
+use Rattle.decimal.proofs.Cases.{split, in-text, rest, take-head}
 use Rattle.decimal.proofs.Words.{word-sound, word-back, word-in}
 use Rattle.decimal.proofs.Decimal.{decimal-five}
 use Rattle.decimal.proofs.Numbers.{no-number, short-found, short-sound}
@@ -21,7 +22,18 @@ use Rattle.forms.specs.declared.Args.the-variants.{Found, Bad}
 use Rattle.forms.specs.Form.{Small}
 use Rattle.forms.specs.Read.{spacedOf, closedOf, oneOf, secondOf, twoOf, Arity, none, one, two, argsOf}
 
--- 1. a space and a number
+-- 1. a byte, and a space and a number
+pub byte-word : (s : List ℕ) (at b : ℕ) → 0 < b → starts (b ∷ []) (drop at s) ≡ eqb (getD s at 0) b
+unfolding starts
+byte-word s at b some =
+    ⊎-elim (λ lt. rw (rest s at lt) (and-true (eqb (getD s at 0) b)))
+    (λ le. rw (drop-of-length-le s le, List·getD-eq-default s 0 le) (sym (ne-eqb 0 b (λ e. omega arith))))
+    (split at (length s))
+  where
+    and-true : (t : Bool) → (t && true) ≡ t
+    and-true true = refl
+    and-true false = refl
+
 spaced-by : (s : List ℕ) (at : ℕ) (t : Bool) → eqb (getD s at 0) 32 ≡ t → (n e : ℕ) → cond t (shortOf s (at + 1)) Wrong ≡ Value n e
     → (drop at s ≡ bytes " " ++ (decimal n ++ drop e s)) × Small n × (e ≡ at + 1 + length (decimal n))
 spaced-by s at false q n e h = no-number n e h

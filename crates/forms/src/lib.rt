@@ -60,7 +60,7 @@ pub fn spaced(s: &[u8], at: usize) -> Num
 pub fn closed(s: &[u8], at: usize, i: usize, j: usize) -> Args
     ensures { λ r. ⌜ r ≡ closedOf (now (s .entry)) at i j ⌝ }
 {
-    if !has(s, at, b")") {
+    if byte_at(s, at) != b')' {
         return Args::Bad;
     }
     Args::Found(i, j, at + 1)

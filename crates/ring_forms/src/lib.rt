@@ -1,4 +1,5 @@
 // The steps of a ring's log, each recognised where its line begins.
+use decimal::byte_at;
 use decimal::has;
 use forms::Args;
 use forms::RingLine;
@@ -65,7 +66,7 @@ pub fn ring_step(s: &[u8], at: usize) -> RingLine
     let l = ring_form(s, at);
     match l {
         RingLine::Step(f, e) => {
-            if !has(s, e, b"\n") {
+            if byte_at(s, e) != b'\n' {
                 return RingLine::NotAForm;
             }
             RingLine::Step(f, e + 1)

@@ -1,4 +1,5 @@
 // The steps of a tree's log, each recognised where its line begins.
+use decimal::byte_at;
 use decimal::has;
 use forms::Args;
 use forms::TreeLine;
@@ -65,7 +66,7 @@ pub fn tree_step(s: &[u8], at: usize) -> TreeLine
     let l = tree_form(s, at);
     match l {
         TreeLine::Step(f, e) => {
-            if !has(s, e, b"\n") {
+            if byte_at(s, e) != b'\n' {
                 return TreeLine::NotAForm;
             }
             TreeLine::Step(f, e + 1)

@@ -1,9 +1,9 @@
 -- `tree_forms::tree_step` meets its contract. Assumes nothing.
 use native.Mathlib.Omega.{arith}
 use mathlib.Core.Path.{sym, _∙_}
-use borrow.Author.Tests.{not-true, not-false}
-use Rattle.decimal.specs.Bytes.{bytes}
-use Rattle.decimal.proofs.Words.{word-in}
+use borrow.Author.Tests.{eq-eqb, ne-eqb}
+use Rattle.decimal.proofs.Cases.{in-text}
+use Rattle.forms.proofs.Arguments.{byte-word}
 use Rattle.forms.proofs.Steps.{tree-told, tree-line, tree-no-line}
 use borrow.Author.Needs.{needs}
 use Rattle.tree_forms.proofs.tree_step.Statement.{statement}
@@ -15,41 +15,35 @@ tree-form-requires c κs = search needs
 enum-known-l : tie.Need-enum-known-l
 enum-known-l c = search needs
 
-slice-aggregate-has : tie.Need-slice-aggregate-has
-slice-aggregate-has c = search needs
-
-has-requires : tie.Need-has-requires
-has-requires c κs = search needs
+byte-at-requires : tie.Need-byte-at-requires
+byte-at-requires c κs = search needs
 
 returns : tie.Need-returns
 returns c =
-    let at-l = c .before .before .before .before in
+    let at-l = c .before .before .before in
     let at-form = at-l .before .before in
     let a = at-form .before .before .args in
     tree-told (a .s .now) (a .at) _
     (sym (tree-line (a .s .now) (a .at) _ _ (sym (at-l .l .given .1) ∙ at-form .tree-form .ensures)
-    ∙ rw (sym (c .before .has .ensures) ∙ not-true _ (c .if1 .taken))))
+    ∙ rw (byte-word (a .s .now) (at-l .l .given .0 .1 .0) 10 (omega arith), ← c .before .byte-at .ensures, ne-eqb _ _ (c .if1 .taken))))
 
-add-t12 : tie.Need-add-t12
-add-t12 c =
-    let at-l = c .before .before .before .before in
+add-t9 : tie.Need-add-t9
+add-t9 c =
+    let at-l = c .before .before .before in
     let a = at-l .before .before .before .before .args in
-    omega (
-      arith,
-      word-in (a .s .now) (at-l .l .given .0 .1 .0) (bytes "\n") (omega arith) (sym (c .before .has .ensures) ∙ not-false _ (c .if1 .left)),
-    )
+    omega (arith, in-text (a .s .now) (at-l .l .given .0 .1 .0) (omega (arith, c .before .byte-at .ensures, c .if1 .left)))
 
 enum-told : tie.Need-enum-told
 enum-told c = search needs
 
 returns-2 : tie.Need-returns-2
 returns-2 c =
-    let at-l = c .before .before .before .before in
+    let at-l = c .before .before .before in
     let at-form = at-l .before .before in
     let a = at-form .before .before .args in
     tree-told (a .s .now) (a .at) _
     (sym (tree-line (a .s .now) (a .at) _ _ (sym (at-l .l .given .1) ∙ at-form .tree-form .ensures)
-    ∙ rw (sym (c .before .has .ensures) ∙ not-false _ (c .if1 .left))))
+    ∙ rw (byte-word (a .s .now) (at-l .l .given .0 .1 .0) 10 (omega arith), ← c .before .byte-at .ensures, eq-eqb _ _ (c .if1 .left))))
 
 returns-3 : tie.Need-returns-3
 returns-3 c =
@@ -63,10 +57,9 @@ tree-step-spec =
     (tie.spec
     tree-form-requires
     enum-known-l
-    slice-aggregate-has
-    has-requires
+    byte-at-requires
     returns
-    add-t12
+    add-t9
     enum-told
     returns-2
     returns-3)
