@@ -2,12 +2,10 @@
 use mathlib.Core.Path.{_≡_, refl, sym, ap, _∙_, subst}
 use mathlib.Core.Bool.{_&&_, Bool, cond, false, true}
 use mathlib.Core.Logic.{_⊎_, inl, inr}
-use mathlib.Core.List.{List, [], _∷_, _++_}
+use mathlib.Core.List.{List}
 use Prim.Native.Nat.{ℕ, _+_, _≤_, _<_}
 use native.Mathlib.Omega.{arith}
 use lib.ListN.{length, drop}
-use lib.Dec.{eqb}
-use lib.Seq.{drop-drop}
 use Rattle.decimal.specs.declared.Num.the-variants.{Value, Wrong}
 use Rattle.decimal.specs.Bytes.{bytes}
 use Rattle.decimal.specs.Word.{starts}
@@ -56,23 +54,6 @@ module _ {B : Type 0} (g : Read Wrapped → B) (s : List ℕ) (at : ℕ) (w : Wr
   wrap-none h = wrap-held ∙ none-by h (starts (bytes ")") (drop e s) && endsLine s at (e + 1))
 
 -- 2. a step
-starts-by : (t a b c : Bool) → a ≡ (b && c) → (t && a) ≡ ((t && b) && c)
-starts-by true a b c h = h
-starts-by false a b c h = refl
-
-starts-both : (v w l : List ℕ) → starts (v ++ w) l ≡ (starts v l && starts w (drop (length v) l))
-unfolding starts
-starts-both [] w l = refl
-starts-both (x ∷ v) w [] = refl
-starts-both (x ∷ v) w (y ∷ l) = starts-by (eqb y x) (starts (v ++ w) l) (starts v l) (starts w (drop (length v) l)) (starts-both v w l)
-
-end-both : (s : List ℕ) (at e : ℕ) → e + 1 < at + lineBytes
-    → (starts (bytes ")") (drop e s) && endsLine s at (e + 1)) ≡ starts (bytes ")\n") (drop e s)
-end-both s at e h =
-    ap (λ (t : Bool). starts (bytes ")") (drop e s) && t)
-    (ends-short s at (e + 1) h ∙ ap (starts (bytes "\n")) (sym (drop-drop 1 e s)))
-    ∙ sym (starts-both (bytes ")") (bytes "\n") (drop e s))
-
 no-step : (s : List ℕ) (at u : ℕ) (x : Read Start) → updateLineOf (lined s at (closedRead s (innerOf u other x))) ≡ NotAForm
 unfolding innerOf closedRead lined
 no-step s at u (read (start.bare n) e) = wrap-none updateLineOf s at (bare u n) e refl
@@ -87,7 +68,8 @@ step-by s at u p o other h x = no-step s at u x
 step-by s at u p o (read f e) h x =
     let few : e + 1 < at + lineBytes = omega (arith, ring-short s p f e h, o .ends, decimal-five u (o .small)) in
     wrap-held updateLineOf s at (step u f) e
-    ∙ ap (λ (t : Bool). cond t (Step u f (e + 2)) NotAForm) (end-both s at e few)
+    ∙ ap (λ (t : Bool). cond t (Step u f (e + 2)) NotAForm)
+    (ap (λ (t : Bool). starts (bytes ")") (drop e s) && t) (ends-short s at (e + 1) few))
 
 pub step-held : (s : List ℕ) (at u p : ℕ) → openedOf s at ≡ Value u p
     → stepIn s u (ringLineOf (readBy ringShapes s p)) ≡ updateLineOf (wrappedAt s at)

@@ -57,7 +57,8 @@ wrappedAt s at = lined s at (updateAt s at)
 
 -- 4. what the code holds of a step
 unfoldable pub stepIn : List ℕ → ℕ → RingLine → UpdateLine
-stepIn s u (ringLine.Step f e) = cond (starts (bytes ")\n") (drop e s)) (Step u f (e + 2)) NotAForm
+stepIn s u (ringLine.Step f e) =
+    cond (starts (bytes ")") (drop e s) && starts (bytes "\n") (drop (e + 1) s)) (Step u f (e + 2)) NotAForm
 stepIn s u ringLine.NotAForm = NotAForm
 
 abbrev pub updateLineOf : Read Wrapped → UpdateLine

@@ -1,5 +1,6 @@
 // The wrapped lines of a log: a step or a start of the ring, inside the number of its update.
 use decimal::Num;
+use decimal::byte_at;
 use decimal::has;
 use first_line::First;
 use first_line::FirstKind;
@@ -34,7 +35,7 @@ fn space_after(s: &[u8], m: Num) -> Num
 {
     match m {
         Num::Value(u, p) => {
-            if !has(s, p, b" ") {
+            if byte_at(s, p) != b' ' {
                 return Num::Wrong;
             }
             Num::Value(u, p + 1)
@@ -59,7 +60,10 @@ fn step_in(s: &[u8], u: usize, l: RingLine) -> UpdateLine
 {
     match l {
         RingLine::Step(f, e) => {
-            if !has(s, e, b")\n") {
+            if byte_at(s, e) != b')' {
+                return UpdateLine::NotAForm;
+            }
+            if byte_at(s, e + 1) != b'\n' {
                 return UpdateLine::NotAForm;
             }
             UpdateLine::Step(u, f, e + 2)
