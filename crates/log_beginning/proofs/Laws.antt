@@ -111,10 +111,13 @@ module _ (f : First) {a : treeAnswers.Answer} (s : a ≡ treeStart.startOf (f .n
 pub other-kind : line.NotAForm ≡ line.Ring → ⊥
 other-kind e = let z : _≡_ {A = ℕ} 0 1 = cc in omega arith
 
+pub tree-kind : line.Tree ≡ line.Ring → ⊥
+tree-kind e = let z : _≡_ {A = ℕ} 0 1 = cc in omega arith
+
 no-moves : Moves rules.noMoves 1
 no-moves = record { places = refl; few = λ u. omega (arith, zeros 8 u) }
   where
-    zeros : (n u : ℕ) → getD (replicate n 0) u 0 ≡ 0
+    zeros : (n u : ℕ) → _≡_ {A = ℕ} (getD (replicate n 0) u 0) 0
     zeros zero u = refl
     zeros (suc n) zero = refl
     zeros (suc n) (suc u) = zeros n u

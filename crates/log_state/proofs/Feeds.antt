@@ -92,7 +92,7 @@ over-fed l text line out at e unheld most places enough = record {
 -- ---- a line that is held whole
 
 pub first-held : (x : rules.Told) (o : openings.Opening) (f : Fed) {k len : ℕ} {line out out′ : List ℕ} → Begins x o out out′
-    → (stageOf (f .log) ≡ stageBy (o .stage) (o .ring) 0 (o .tree)) × (f .log .lines ≡ k + 1) × (f .log .len ≡ 0) × (f .count ≡ o .at)
+    → (stageOf (f .log) ≡ stageBy (o .stage) (o .ring) 0 (o .tree) (o .table) rules.noMoves) × (f .log .lines ≡ k + 1) × (f .log .len ≡ 0) × (f .count ≡ o .at)
     → k < lineLimit → ((l : List ℕ) → StandsFor line len l → OneLine l → rules.lineTold rules.fresh (k + 1) l ≡ x)
     → HeldTold rules.fresh k len line f out out′
 first-held x o f {k} b e under tell =

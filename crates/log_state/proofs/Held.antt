@@ -15,7 +15,7 @@ use Rattle.log_rules.proofs.Cuts.{long-told, rest-full, rest-line, rest-long}
 use Rattle.log_rules.proofs.Ends.{ended-itself, ended-left}
 use Rattle.log_rules.specs.Lines.{lineLimit}
 use Rattle.log_rules.specs.Output.{restOf}
-use Rattle.log_rules.specs.Pieces.{NoMore, OneLine, PartLine, Went, another, cut, empty, full, heldOf, longBytes, notTold}
+use Rattle.log_rules.specs.Pieces.{Moves, NoMore, OneLine, PartLine, Went, another, cut, empty, full, heldOf, longBytes, notTold}
 use Rattle.log_state.specs.Feed.{StandsFor}
 use Rattle.log_rules.specs.Answers as rules
 use Rattle.forms.specs.Form as forms
@@ -108,10 +108,14 @@ pub first-told : (k : ℕ) (l : List ℕ) → rules.lineTold rules.fresh k l ≡
 unfolding rules.lineTold
 first-told k l = refl
 
+pub later-moves : {ms : List ℕ} {k : ℕ} → Moves ms k → Moves ms (k + 1)
+later-moves m = record { places = m .places; few = λ u. omega (arith, m .few u) }
+
 pub sound-later : (s : rules.Stage) (k : ℕ) → 1 ≤ k → SoundStage s 1 → SoundStage s k
 sound-later rules.fresh k h x = tt
 sound-later (rules.onRing r m) k h x = (x .0, omega (arith, x .1))
 sound-later (rules.onTree t) k h x = x
+sound-later (rules.onTable t ms) k h x = (x .0, record { places = x .1 .places; few = λ u. omega (arith, x .1 .few u) })
 sound-later rules.over k h x = tt
 
 -- as many bytes are held as are counted

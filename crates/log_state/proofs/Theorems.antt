@@ -50,6 +50,7 @@ module _ (k len : ℕ) (many : lineBytes ≤ len) where
       go rules.fresh = first-long
       go (rules.onRing r m) = right-true (allAnswered k) (both-true long-test last-test)
       go (rules.onTree t) = right-true (allAnswered k) (both-true long-test last-test)
+      go (rules.onTable t ms) = right-true (allAnswered k) (both-true long-test last-test)
       go rules.over = refl
 
 -- ---- a log that is decided
@@ -113,6 +114,7 @@ module _ (line : List ℕ) (k len : ℕ) (places : length line ≡ lineBytes) (p
   same-rest rules.fresh e = first e
   same-rest (rules.onRing r m) e = last (rules.onRing r m) e
   same-rest (rules.onTree t) e = last (rules.onTree t) e
+  same-rest (rules.onTable t ms) e = last (rules.onTable t ms) e
   same-rest rules.over e = rest-over k (heldOf line len) rest ∙ sym (rest-over k (heldOf line len) [])
 
 -- ---- a log that is not decided
@@ -141,6 +143,7 @@ open-at : (s : rules.Stage) (k : ℕ) → decidedBy s k 0 ≡ false → (rest : 
 open-at rules.fresh k e = (formText (bareRing 1), first-open k (leb-false lineLimit k (neither _ _ e .0)))
 open-at (rules.onRing r m) k e = (0 ∷ [], line-open (rules.onRing r m) k (leb-false lineLimit k (neither _ _ e .0)) refl)
 open-at (rules.onTree t) k e = (0 ∷ [], line-open (rules.onTree t) k (leb-false lineLimit k (neither _ _ e .0)) refl)
+open-at (rules.onTable t ms) k e = (0 ∷ [], line-open (rules.onTable t ms) k (leb-false lineLimit k (neither _ _ e .0)) refl)
 open-at rules.over k e = absurd (false-true (sym e))
 
 pub settled : Settled

@@ -17,7 +17,7 @@ use Rattle.log_state.specs.declared.Log.{Log}
 use Rattle.log_rules.specs.Answers as rules
 
 abbrev pub stageOf : Log → rules.Stage
-stageOf l = stageBy (l .stage) (l .ring) (l .moves) (l .tree)
+stageOf l = stageBy (l .stage) (l .ring) (l .moves) (l .tree) (l .table) (l .each)
 
 -- a log between two pieces, with the buffer of the line that is held
 pub record Good (l : Log) (line : List ℕ) : Type 0 where
@@ -54,6 +54,7 @@ abbrev pub decidedBy : rules.Stage → ℕ → ℕ → Bool
 decidedBy rules.fresh k len = allAnswered k || tooLong len
 decidedBy (rules.onRing r m) k len = allAnswered k || (tooLong len && lastIsNext k)
 decidedBy (rules.onTree t) k len = allAnswered k || (tooLong len && lastIsNext k)
+decidedBy (rules.onTable t ms) k len = allAnswered k || (tooLong len && lastIsNext k)
 decidedBy rules.over k len = true
 
 abbrev pub decided : Log → Bool

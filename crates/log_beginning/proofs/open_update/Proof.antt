@@ -1,3 +1,9 @@
+use lib.Seq.{length-take-le}
+use mathlib.Core.Path.{refl, sym}
+use native.Mathlib.Omega.{arith}
+use Rattle.log_text.proofs.Texts.{answer-short}
+use Rattle.refusal.specs.declared.Verdict.the-variants.{Accepted}
+use Rattle.log_beginning.proofs.Laws.{many-nodes-of, no-nodes-of, no-update, unknown-node-of, update-begins}
 use borrow.Author.Needs.{needs}
 use Rattle.log_beginning.proofs.open_update.Statement.{statement}
 use Rattle.log_beginning.proofs.open_update.Tie as tie
@@ -10,89 +16,79 @@ use Rattle.log_text.proofs.put_answer.Reads as put-answer-reads
 use Rattle.table.proofs.Table.empty.Reads as empty-reads
 use Rattle.table.proofs.Table.start.Reads as start-reads
 
--- src/lib.rt:130:9
 refuse-requires : tie.Need-refuse-requires
 refuse-requires c κs = search needs
 
--- src/lib.rt:130:9
 same-length : tie.Need-same-length
 same-length c = search needs
 
--- src/lib.rt:130:9
 returns : tie.Need-returns
-returns c = ?
+returns c =
+    let start = c .before .before .before .before .before .before in
+    rw (no-update (start .args .u) (start .args .f) (c .before .before .before .before .if1 .taken)) (c .before .before .refuse .ensures)
 
--- src/lib.rt:133:9
 refuse-requires-2 : tie.Need-refuse-requires-2
 refuse-requires-2 c κs = search needs
 
--- src/lib.rt:133:9
 same-length-2 : tie.Need-same-length-2
 same-length-2 c = search needs
 
--- src/lib.rt:133:9
 returns-2 : tie.Need-returns-2
-returns-2 c = ?
+returns-2 c =
+    let start = c .before .before .before .before .before .before .before in
+    rw (no-nodes-of (start .args .u) (start .args .f) (omega (arith, c .before .before .before .before .before .if1 .left)) (c .before .before .before .before .if2 .taken)) (c .before .before .refuse2 .ensures)
 
--- src/lib.rt:136:9
 refuse-requires-3 : tie.Need-refuse-requires-3
 refuse-requires-3 c κs = search needs
 
--- src/lib.rt:136:9
 same-length-3 : tie.Need-same-length-3
 same-length-3 c = search needs
 
--- src/lib.rt:136:9
 returns-3 : tie.Need-returns-3
-returns-3 c = ?
+returns-3 c =
+    let start = c .before .before .before .before .before .before .before .before in
+    rw (many-nodes-of (start .args .u) (start .args .f) (omega (arith, c .before .before .before .before .before .before .if1 .left)) (c .before .before .before .before .if3 .taken)) (c .before .before .refuse3 .ensures)
 
--- src/lib.rt:139:9
 refuse-requires-4 : tie.Need-refuse-requires-4
 refuse-requires-4 c κs = search needs
 
--- src/lib.rt:139:9
 same-length-4 : tie.Need-same-length-4
 same-length-4 c = search needs
 
--- src/lib.rt:139:9
 returns-4 : tie.Need-returns-4
-returns-4 c = ?
+returns-4 c =
+    let start = c .before .before .before .before .before .before .before .before .before .before in
+    rw (unknown-node-of (start .args .u) (start .args .f) (omega (arith, c .before .before .before .before .before .before .before .before .if1 .left)) (omega arith) (c .before .before .before .before .before .before .if3 .left) (c .before .before .before .before .if4 .taken)) (c .before .before .refuse4 .ensures)
 
--- src/lib.rt:142:9
 empty-requires : tie.Need-empty-requires
 empty-requires c κs = search needs
 
--- src/lib.rt:143:30
 array-share-prefix-flags : tie.Need-array-share-prefix-flags
 array-share-prefix-flags c = search needs
 
--- src/lib.rt:143:30
 slice-aggregate-start : tie.Need-slice-aggregate-start
-slice-aggregate-start c = ?
+slice-aggregate-start c = sym (length-take-le _ _ (omega (arith, c .before .before .before .before .before .before .before .before .before .pre .1 .places)))
 
--- src/lib.rt:143:9
 start-requires : tie.Need-start-requires
 start-requires c κs = search needs
 
--- src/lib.rt:145:9
 blank-ring-requires : tie.Need-blank-ring-requires
 blank-ring-requires c κs = search needs
 
--- src/lib.rt:146:9
 blank-tree-requires : tie.Need-blank-tree-requires
 blank-tree-requires c κs = search needs
 
--- src/lib.rt:147:9
 put-answer-requires : tie.Need-put-answer-requires
-put-answer-requires c κs = ?
+put-answer-requires c κs = omega (arith, c .before .before .before .before .before .before .before .before .before .before .before .before .before .before .pre .0, answer-short 1 Accepted (omega arith))
 
--- src/lib.rt:124:1
 same-length-5 : tie.Need-same-length-5
 same-length-5 c = search needs
 
--- src/lib.rt:124:1
 returns-5 : tie.Need-returns-5
-returns-5 c = ?
+returns-5 c =
+    let start = c .before .before .before .before .before .before .before .before .before .before .before .before .before .before .before .before .before in
+    update-begins (start .args .u) (start .args .f) (omega (arith, c .before .before .before .before .before .before .before .before .before .before .before .before .before .before .before .if1 .left)) (omega (arith, c .before .before .before .before .before .before .before .before .before .before .before .before .before .before .if2 .left)) (c .before .before .before .before .before .before .before .before .before .before .before .before .before .if3 .left) (c .before .before .before .before .before .before .before .before .before .before .before .if4 .left) (start .pre .1) (c .before .before .before .before .before .before .before .before .before .empty .ensures) (c .before .before .before .before .before .before .before .start .ensures) refl
+    (c .before .before .put-answer .ensures)
 
 pub open-update-spec : {M : Type 1} → statement M
 open-update-spec =

@@ -18,21 +18,30 @@ enum-told-2 c = search needs
 
 held-ring-requires : tie.Need-held-ring-requires
 held-ring-requires c κs =
-    let start = c .before .before .before .before .before .before .before in
+    let start = c .before .before .before .before .before .before .before .before .before in
     let p = start .pre in let l = start .args .log in
-    (p .0, subst (λ (x : code.Stage). SoundStage (stageBy x (l .ring) (l .moves) (l .tree)) (l .lines)) (c .before .enum-told2 .given .1) (p .1))
+    (p .0, subst (λ (x : code.Stage). SoundStage (stageBy x (l .ring) (l .moves) (l .tree) (l .table) (l .each)) (l .lines)) (c .before .enum-told2 .given .1) (p .1))
 
 enum-told-3 : tie.Need-enum-told-3
 enum-told-3 c = search needs
 
 held-tree-requires : tie.Need-held-tree-requires
 held-tree-requires c κs =
-    let start = c .before .before .before .before .before .before .before in
+    let start = c .before .before .before .before .before .before .before .before .before in
     let p = start .pre in let l = start .args .log in
-    (p .0, subst (λ (x : code.Stage). SoundStage (stageBy x (l .ring) (l .moves) (l .tree)) (l .lines)) (c .before .enum-told3 .given .1) (p .1))
+    (p .0, subst (λ (x : code.Stage). SoundStage (stageBy x (l .ring) (l .moves) (l .tree) (l .table) (l .each)) (l .lines)) (c .before .enum-told3 .given .1) (p .1))
 
 enum-told-4 : tie.Need-enum-told-4
 enum-told-4 c = search needs
+
+held-table-requires : tie.Need-held-table-requires
+held-table-requires c κs =
+    let start = c .before .before .before .before .before .before .before .before .before in
+    let p = start .pre in let l = start .args .log in
+    (p .0, subst (λ (x : code.Stage). SoundStage (stageBy x (l .ring) (l .moves) (l .tree) (l .table) (l .each)) (l .lines)) (c .before .enum-told4 .given .1) (p .1))
+
+enum-told-5 : tie.Need-enum-told-5
+enum-told-5 c = search needs
 
 holding-requires : tie.Need-holding-requires
 holding-requires c κs = search needs
@@ -55,11 +64,17 @@ same-length-3 c = search needs
 returns-3 : tie.Need-returns-3
 returns-3 c = rw (c .before .before .before .before .enum-told3 .given .1) (c .before .before .held-tree .ensures)
 
+same-length-4 : tie.Need-same-length-4
+same-length-4 c = search needs
+
 returns-4 : tie.Need-returns-4
-returns-4 c =
-    let start = c .before .before .before .before .before .before .before in
+returns-4 c = rw (c .before .before .before .before .enum-told4 .given .1) (c .before .before .held-table .ensures)
+
+returns-5 : tie.Need-returns-5
+returns-5 c =
+    let start = c .before .before .before .before .before .before .before .before .before in
     let p = start .pre in let l = start .args .log in
-    let e = ap (λ (x : code.Stage). stageBy x (l .ring) (l .moves) (l .tree)) (c .before .enum-told4 .given .1) in
+    let e = ap (λ (x : code.Stage). stageBy x (l .ring) (l .moves) (l .tree) (l .table) (l .each)) (c .before .enum-told5 .given .1) in
     let u = c .holding .ensures in
     over-held l _ e (u .0 ∙ e) (u .1) (u .2) refl (omega (arith, p .0 .under))
 
@@ -74,6 +89,8 @@ answer-held-spec =
     enum-told-3
     held-tree-requires
     enum-told-4
+    held-table-requires
+    enum-told-5
     holding-requires
     same-length
     returns
@@ -81,4 +98,6 @@ answer-held-spec =
     returns-2
     same-length-3
     returns-3
-    returns-4)
+    same-length-4
+    returns-4
+    returns-5)
