@@ -10,8 +10,11 @@ use log_state::Fed;
 use log_state::Log;
 use log_state::answer_held;
 use log_state::holding;
+use log_table::table_piece;
 use log_tree::tree_piece;
+use refusal::UPDATES;
 use ring::Ring;
+use table::Table;
 use tree::Tree;
 ghost use mathlib.Core.Path.{_≡_};
 ghost use mathlib.Core.List.{[]};
@@ -19,8 +22,9 @@ ghost use Prim.Native.Nat.{_+_, _*_, _≤_};
 ghost use lib.ListN.{length, drop};
 ghost use Rattle.ring.specs.View as ringView;
 ghost use Rattle.tree.specs.View as treeView;
+ghost use Rattle.table.specs.View as tableView;
 ghost use Rattle.forms.specs.Form.{lineBytes};
-ghost use Rattle.log_rules.specs.Answers.{answerBytes, fresh, onRing, onTree};
+ghost use Rattle.log_rules.specs.Answers.{answerBytes, fresh, onRing, onTable, onTree};
 ghost use Rattle.log_rules.specs.Pieces.{NoMore, heldOf};
 ghost use Rattle.log_beginning.specs.Open.{SoundStage};
 ghost use Rattle.log_state.specs.Feed.{stageOf, Good, Room, HeldRest, FedFrom, Going};
@@ -31,11 +35,14 @@ pub fn start() -> Log
 {
     let ring = blank_ring();
     let tree = blank_tree();
+    let table = Table::empty();
     Log {
         stage: Stage::Fresh,
         ring,
         tree,
+        table,
         moves: 0,
+        each: [0; UPDATES],
         lines: 0,
         len: 0,
     }
@@ -56,6 +63,7 @@ fn hold_rest(lines: u64, piece: &[u8], next: usize, line: &mut [u8]) -> usize
 fn go_ring(
     ring: Ring,
     tree: Tree,
+    table: Table,
     moves: u64,
     lines: u64,
     piece: &[u8],
@@ -74,7 +82,9 @@ fn go_ring(
         stage: Stage::Ring,
         ring: after,
         tree,
+        table,
         moves: f.moves,
+        each: [0; UPDATES],
         lines: f.lines,
         len,
     };
@@ -85,6 +95,7 @@ fn go_ring(
 fn go_tree(
     ring: Ring,
     tree: Tree,
+    table: Table,
     lines: u64,
     piece: &[u8],
     from: usize,
@@ -102,7 +113,42 @@ fn go_tree(
         stage: Stage::Tree,
         ring,
         tree: after,
+        table,
         moves: 0,
+        each: [0; UPDATES],
+        lines: f.lines,
+        len,
+    };
+    Fed { log, count: f.at }
+}
+
+// The same of a table's run.
+fn go_table(
+    ring: Ring,
+    tree: Tree,
+    table: Table,
+    each: [u64; UPDATES],
+    lines: u64,
+    piece: &[u8],
+    from: usize,
+    line: &mut [u8],
+    out: &mut [u8],
+    at: usize,
+) -> Fed
+    requires { ⌜ Room lines (now piece) from (now line) (now out) at × SoundStage (onTable (tableView.table table) each) lines ⌝ }
+    ensures { λ f. ⌜ FedFrom (onTable (tableView.table table) each) lines [] (drop from (now (piece .entry))) f (now (line .exit)) at (now (out .entry)) (now (out .exit)) ⌝ }
+{
+    let f = table_piece(table, each, lines, piece, from, out, at);
+    let len = hold_rest(f.lines, piece, f.next, line);
+    let after = f.table;
+    let moves = f.moves;
+    let log = Log {
+        stage: Stage::Table,
+        ring,
+        tree,
+        table: after,
+        moves: 0,
+        each: moves,
         lines: f.lines,
         len,
     };
@@ -117,9 +163,34 @@ fn go_on(log: Log, piece: &[u8], from: usize, line: &mut [u8], out: &mut [u8], a
     let stage = log.stage;
     let ring = log.ring;
     let tree = log.tree;
+    let table = log.table;
+    let each = log.each;
     match stage {
-        Stage::Ring => go_ring(ring, tree, log.moves, log.lines, piece, from, line, out, at),
-        Stage::Tree => go_tree(ring, tree, log.lines, piece, from, line, out, at),
+        Stage::Ring => go_ring(
+            ring,
+            tree,
+            table,
+            log.moves,
+            log.lines,
+            piece,
+            from,
+            line,
+            out,
+            at,
+        ),
+        Stage::Tree => go_tree(ring, tree, table, log.lines, piece, from, line, out, at),
+        Stage::Table => go_table(
+            ring,
+            tree,
+            table,
+            each,
+            log.lines,
+            piece,
+            from,
+            line,
+            out,
+            at,
+        ),
         Stage::Over => Fed { log, count: at },
         Stage::Fresh => Fed { log, count: at },
     }

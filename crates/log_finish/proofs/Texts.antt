@@ -64,8 +64,8 @@ module _ (line : List ℕ) (k len : ℕ) (places : length line ≡ lineBytes) (p
 
 -- the state of the run that a log's stage names is sound
 pub sound-as : {l : Log} {line : List ℕ} {x : code.Stage} → Good l line → l .stage ≡ x
-    → SoundStage (stageBy x (l .ring) (l .moves) (l .tree)) (l .lines)
-sound-as {l} good e = subst (λ (x : code.Stage). SoundStage (stageBy x (l .ring) (l .moves) (l .tree)) (l .lines)) e (good .sound)
+    → SoundStage (stageBy x (l .ring) (l .moves) (l .tree) (l .table) (l .each)) (l .lines)
+sound-as {l} good e = subst (λ (x : code.Stage). SoundStage (stageBy x (l .ring) (l .moves) (l .tree) (l .table) (l .each)) (l .lines)) e (good .sound)
 
 pub finished : (l : Log) (line : List ℕ) {st : rules.Stage} {t : List ℕ} {r : ℕ} {out out′ : List ℕ} → stageOf l ≡ st
     → restOf st (l .lines) (heldOf line (l .len)) [] ≡ t → Wrote out 0 t r out′ → r ≤ length out → Finished l line r out out′

@@ -4,6 +4,7 @@ use log_end::put_ring_end;
 use log_end::put_tree_end;
 use log_rules::LINE_LIMIT;
 use log_state::Log;
+use log_table_end::put_table_end;
 use log_text::put_answer;
 use refusal::Refusal;
 use refusal::Verdict;
@@ -30,7 +31,7 @@ fn put_cut(out: &mut [u8], lines: u64, len: usize) -> usize
 
 // What is still to be written where the log ends. `line` is the buffer of the line that is held.
 pub fn finish(log: Log, line: &[u8], out: &mut [u8]) -> usize
-    requires { ⌜ Good log (now line) × (512 ≤ length (now out)) ⌝ }
+    requires { ⌜ Good log (now line) × (4096 ≤ length (now out)) ⌝ }
     ensures { λ r. ⌜ Finished log (now (line .entry)) r (now (out .entry)) (now (out .exit)) ⌝ }
 {
     let stage = log.stage;
@@ -45,6 +46,12 @@ pub fn finish(log: Log, line: &[u8], out: &mut [u8]) -> usize
             let at = put_cut(out, log.lines, log.len);
             let tree = log.tree;
             put_tree_end(out, at, tree)
+        }
+        Stage::Table => {
+            let at = put_cut(out, log.lines, log.len);
+            let table = log.table;
+            let each = log.each;
+            put_table_end(out, at, table, each)
         }
         Stage::Over => 0,
     }

@@ -22,7 +22,7 @@ put-answer-requires c κs =
     let start = c .before .before .before .before in
     omega (arith, start .pre .0 .room, answer-short (start .args .lines + 1) (Refused NotAForm) (omega (arith, start .pre .0 .under)))
 
-add-t18 : tie.Need-add-t17
+add-t18 : tie.Need-add-t18
 add-t18 c = search needs
 
 same-length : tie.Need-same-length
