@@ -1,6 +1,7 @@
 pub mod First
 pub mod Runs
 pub mod Detectors
+pub mod Updates
 pub mod Theorems
 pub mod WholeLog
 pub mod Listing

@@ -3,6 +3,7 @@ use Prim.Native.Nat.{_<_, suc, zero, ℕ}
 use lib.ListN.{getD}
 use mathlib.Core.Bool.{false}
 use mathlib.Core.List.{List, [], _∷_}
+use mathlib.Core.Logic.{inl}
 use mathlib.Core.Path.{_∙_, _≡_, ap, refl, subst, sym}
 use native.Mathlib.Omega.{arith}
 use Rattle.color.specs.Colors.{blackened, isBlack, whitened}
@@ -25,11 +26,12 @@ use Rattle.signed.specs.Integers.{_⊖_, isPositive, isSame, isZero}
 use Rattle.log_runs.proofs.Theorems.{log-runs}
 use Rattle.log_runs.specs.First.{flagsTo}
 use Rattle.log_runs.specs.Listing.{ListingWhole, first, firstLine, listing, otherLines}
-use Rattle.log_runs.specs.Says.{Ask, Each, RingAsks, line, no-line, request, says}
-use Rattle.log_runs.specs.WholeLog.{CountsDown, NoneBefore, OkAt, oks, verdictAt}
+use Rattle.log_runs.specs.Says.{Ask, Each, RingAsks, line, listTo, no-line, request, says}
+use Rattle.log_runs.specs.WholeLog.{CountsDown, NoneBefore}
+use Rattle.log_runs.specs.Answered.{OkAt, oks, verdictAt}
 use Rattle.forms.specs.declared.RingStep.the-variants as step
 
-asked : List Ask
+asked : List (Ask Request)
 asked =
     request (ringRequest step.Announce)
     ∷ request (ringRequest step.Probe)
@@ -102,17 +104,17 @@ none-before (suc (suc (suc (suc (suc zero))))) h a = not-announce (bytes "(pass 
 none-before (suc (suc (suc (suc (suc (suc i)))))) h a = let z : ⊥ = omega arith in z
 
 four :
-    {K : ℕ} {qs : List Ask} {Step : Request → Type 0} → Each RingAsks otherLines qs → CountsDown ring first qs otherLines Step 0 K → K ≡ 4
+    {K : ℕ} {qs : List (Ask Request)} {Step : Request → Type 0} → Each RingAsks otherLines qs → CountsDown ring first qs otherLines Step 0 K → K ≡ 4
 four {K} {qs} {Step} c d =
-    let e = subst (λ (ps : List Ask). CountsDown ring first ps otherLines Step 0 K) (log-runs .ring-once c each-asked) d in
+    let e = subst (λ (ps : List (Ask Request)). CountsDown ring first ps otherLines Step 0 K) (log-runs .ring-once c each-asked) d in
     let k = e .exactly 6 (omega arith) none-before announce-line .0 (computed .2) in
     omega (arith, computed .3, k)
 
 pub listing-whole : ListingWhole
-unfolding flagsTo decimal digits
+unfolding flagsTo listTo decimal digits
 listing-whole = record {
   lines = lines;
-  asks = says (lists 2 [] (1 ∷ [])) (refl, ((omega arith, tt, (omega arith, omega arith, tt)), omega arith));
+  asks = says (inl (lists 2 [] (1 ∷ []))) (refl, ((omega arith, tt, (omega arith, omega arith, tt)), omega arith));
   accepted = refl;
   begins = refl;
   quiet = record { passive = passive; empty = empty };

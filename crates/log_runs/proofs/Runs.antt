@@ -23,7 +23,8 @@ use Rattle.runs.proofs.Runs.{accepted-append, run-append}
 use Rattle.runs.specs.Runs.{Accepts, Machine, Request, acceptedOf, next, runOf}
 use Rattle.log_runs.proofs.First.{asks-once}
 use Rattle.log_runs.specs.Says.{Ask, Asks, Each, cut, line, no-line, no-step, other, printed, request, requestsIn, says, stageAfter}
-use Rattle.log_runs.specs.WholeLog.{AnnouncedAt, CountsDown, NoneBefore, OkAt, oks, said, textsTo, verdictAt, verdictOn}
+use Rattle.log_runs.specs.Answered.{OkAt, oks, said, textsTo, verdictAt, verdictOn}
+use Rattle.log_runs.specs.WholeLog.{AnnouncedAt, CountsDown, NoneBefore}
 use Rattle.log_rules.specs.Theorems as lines
 
 -- ---- what is printed
@@ -40,37 +41,37 @@ texts-same : {f : ℕ → List ℕ} (g : ℕ → List ℕ) → ((i : ℕ) → f 
 texts-same g e n = ap (λ (h : ℕ → List ℕ). textsTo h n) (fun-ext e)
 
 -- the state after what a line asks for
-abbrev pub after : {S : Type 0} → Machine S Request → S → Ask → S
+abbrev pub after : {S R : Type 0} → Machine S R → S → Ask R → S
 after m s (request x) = next m s x
 after m s no-step = s
 
-module _ {S : Type 0} (m : Machine S Request) where
-  verdict-next : (s : S) (a : Ask) (qs : List Ask) (i : ℕ) → verdictAt m (after m s a) qs i ≡ verdictAt m s (a ∷ qs) (suc i)
+module _ {S R : Type 0} (m : Machine S R) where
+  verdict-next : (s : S) (a : Ask R) (qs : List (Ask R)) (i : ℕ) → verdictAt m (after m s a) qs i ≡ verdictAt m s (a ∷ qs) (suc i)
   unfolding runOf
   verdict-next s (request x) qs i = refl
   verdict-next s no-step qs i = refl
 
-  verdict-first : (s : S) (a : Ask) (qs : List Ask) → verdictOn m s a ≡ verdictAt m s (a ∷ qs) 0
+  verdict-first : (s : S) (a : Ask R) (qs : List (Ask R)) → verdictOn m s a ≡ verdictAt m s (a ∷ qs) 0
   unfolding runOf
   verdict-first s a qs = refl
 
   number :
-      (s : S) (a : Ask) (qs : List Ask) (k i : ℕ)
+      (s : S) (a : Ask R) (qs : List (Ask R)) (k i : ℕ)
       → answerText (k + 1 + i) (verdictAt m (after m s a) qs i) ≡ answerText (k + suc i) (verdictAt m s (a ∷ qs) (suc i))
   number s a qs k i =
       let e : k + 1 + i ≡ k + suc i = omega arith in
       ap (λ (n : ℕ). answerText n (verdictAt m (after m s a) qs i)) e ∙ ap (answerText (k + suc i)) (verdict-next s a qs i)
 
   -- a line that asks for a is answered with the verdict on it, and the run goes on
-  pub record Answers (stage : S → ℕ → Stage) (s : S) (moves k : ℕ) (l : List ℕ) (a : Ask) : Type 0 where
+  pub record Answers {M : Type 0} (stage : S → M → Stage) (s : S) (moves : M) (k : ℕ) (l : List ℕ) (a : Ask R) : Type 0 where
     pub text : lineTold (stage s moves) k l .text ≡ answerText k (verdictOn m s a)
-    pub moves′ : ℕ
+    pub moves′ : M
     pub there : lineTold (stage s moves) k l .stage ≡ stage (after m s a) moves′
 
   pub lines-printed :
-      {P : List ℕ → Ask → Type 0} {stage : S → ℕ → Stage}
-      → ((s : S) (moves k : ℕ) (l : List ℕ) (a : Ask) → P l a → Answers stage s moves k l a)
-      → (s : S) (moves k : ℕ) {ls : List (List ℕ)} {qs : List Ask} → Each P ls qs
+      {P : List ℕ → Ask R → Type 0} {M : Type 0} {stage : S → M → Stage}
+      → ((s : S) (moves : M) (k : ℕ) (l : List ℕ) (a : Ask R) → P l a → Answers stage s moves k l a)
+      → (s : S) (moves : M) (k : ℕ) {ls : List (List ℕ)} {qs : List (Ask R)} → Each P ls qs
       → printed (stage s moves) k ls ≡ textsTo (λ i. answerText (k + i) (verdictAt m s qs i)) (length qs)
   unfolding printed textsTo
   lines-printed h s moves k no-line = refl
@@ -87,24 +88,24 @@ module _ {S : Type 0} (m : Machine S Request) where
 
 -- ---- the requests of lines
 
-requests-append : (ps qs : List Ask) → requestsIn (ps ++ qs) ≡ requestsIn ps ++ requestsIn qs
+requests-append : {R : Type 0} (ps qs : List (Ask R)) → requestsIn (ps ++ qs) ≡ requestsIn ps ++ requestsIn qs
 requests-append [] qs = refl
-requests-append (request x ∷ ps) qs = ap (λ (l : List Request). x ∷ l) (requests-append ps qs)
+requests-append (request x ∷ ps) qs = ap (λ (l : List _). x ∷ l) (requests-append ps qs)
 requests-append (no-step ∷ ps) qs = requests-append ps qs
 
-said-next : (qs : List Ask) (i : ℕ) → said qs (suc i) ≡ said qs i ++ requestsIn (getD qs i no-step ∷ [])
+said-next : {R : Type 0} (qs : List (Ask R)) (i : ℕ) → said qs (suc i) ≡ said qs i ++ requestsIn (getD qs i no-step ∷ [])
 said-next [] zero = refl
 said-next [] (suc i) = refl
 said-next (request x ∷ qs) zero = refl
-said-next (request x ∷ qs) (suc i) = ap (λ (l : List Request). x ∷ l) (said-next qs i)
+said-next (request x ∷ qs) (suc i) = ap (λ (l : List _). x ∷ l) (said-next qs i)
 said-next (no-step ∷ qs) zero = refl
 said-next (no-step ∷ qs) (suc i) = said-next qs i
 
 -- those of lines 2 + i to 1 + j
-between : List Ask → ℕ → ℕ → List Request
+between : {R : Type 0} → List (Ask R) → ℕ → ℕ → List R
 between qs i j = requestsIn (take (j - i) (drop i qs))
 
-said-later : (qs : List Ask) (i j : ℕ) → i ≤ j → said qs j ≡ said qs i ++ between qs i j
+said-later : {R : Type 0} (qs : List (Ask R)) (i j : ℕ) → i ≤ j → said qs j ≡ said qs i ++ between qs i j
 unfolding between
 said-later qs i j h =
     let e : j ≡ i + (j - i) = omega arith in
@@ -112,7 +113,7 @@ said-later qs i j h =
 
 -- ---- how many are accepted
 
-module _ {S : Type 0} (m : Machine S Request) (s : S) (qs : List Ask) where
+module _ {S R : Type 0} (m : Machine S R) (s : S) (qs : List (Ask R)) where
   accepted-later :
       (i j : ℕ) → i ≤ j
       → acceptedOf m s (said qs j) ≡ acceptedOf m s (said qs i) ++ acceptedOf m (runOf m s (said qs i)) (between qs i j)
@@ -124,7 +125,7 @@ module _ {S : Type 0} (m : Machine S Request) (s : S) (qs : List Ask) where
       ≡ acceptedOf m s (said qs i) ++ acceptedOf m (runOf m s (said qs i)) (requestsIn (getD qs i no-step ∷ []))
   accepted-next i = ap (acceptedOf m s) (said-next qs i) ∙ accepted-append m s (said qs i) (requestsIn (getD qs i no-step ∷ []))
 
-  one-more : (t : S) (a : Ask) → length (acceptedOf m t (requestsIn (a ∷ []))) ≡ cond (isAccepted (verdictOn m t a)) 1 0
+  one-more : (t : S) (a : Ask R) → length (acceptedOf m t (requestsIn (a ∷ []))) ≡ cond (isAccepted (verdictOn m t a)) 1 0
   unfolding acceptedOf
   one-more t no-step = refl
   one-more t (request x) = go (m .verdict t x)
@@ -158,7 +159,7 @@ module _ {S : Type 0} (m : Machine S Request) (s : S) (qs : List Ask) where
       )
 
   -- where nothing more is accepted, no line is answered with ok
-  none-ok : (i : ℕ) → ((ys : List Request) → acceptedOf m (runOf m s (said qs i)) ys ≡ []) → (j : ℕ) → i ≤ j → OkAt m s qs j → ⊥
+  none-ok : (i : ℕ) → ((ys : List R) → acceptedOf m (runOf m s (said qs i)) ys ≡ []) → (j : ℕ) → i ≤ j → OkAt m s qs j → ⊥
   none-ok i none j h ok =
       let still = oks-later i j h in
       let again = oks-later i (suc j) (omega arith) in
@@ -166,14 +167,49 @@ module _ {S : Type 0} (m : Machine S Request) (s : S) (qs : List Ask) where
       let z : ⊥ = omega (arith, ap length (none (between qs i j)), ap length (none (between qs i (suc j))), one) in z
 
   -- a line is answered with ok if it asks for a request that is accepted there
-  ok-request : (i : ℕ) → OkAt m s qs i → (x : Request) × (getD qs i no-step ≡ request x) × Accepts m (runOf m s (said qs i)) x
+  ok-request : (i : ℕ) → OkAt m s qs i → (x : R) × (getD qs i no-step ≡ request x) × Accepts m (runOf m s (said qs i)) x
   ok-request i = go (getD qs i no-step) refl
     where
       go :
-          (a : Ask) → getD qs i no-step ≡ a → verdictOn m (runOf m s (said qs i)) a ≡ Accepted
-          → (x : Request) × (getD qs i no-step ≡ request x) × Accepts m (runOf m s (said qs i)) x
+          (a : Ask R) → getD qs i no-step ≡ a → verdictOn m (runOf m s (said qs i)) a ≡ Accepted
+          → (x : R) × (getD qs i no-step ≡ request x) × Accepts m (runOf m s (said qs i)) x
       go (request x) e ok = (x, e, ok)
       go no-step e ok = absurd (not-both ok refl)
+
+-- ---- what lines ask for
+
+-- the lines of a run: what they say, and what they ask for
+pub record Reads (F R : Type 0) : Type 1 where
+  pub form : F → Form
+  pub asked : F → R
+  pub once : (l : List ℕ) (f g : F) → Says l (form f) → Says l (form g) → f ≡ g
+  pub told : (l : List ℕ) → OneLine l → ((f : F) × Says l (form f)) ⊎ ((f : F) → Says l (form f) → ⊥)
+
+module _ {F R : Type 0} (d : Reads F R) where
+  abbrev pub LineAsks : List ℕ → Ask R → Type 0
+  LineAsks = Asks (d .form) (λ f. request (d .asked f)) no-step
+
+  -- the lines of a text ask for something each
+  pub each-asks : {s : List ℕ} {ls : List (List ℕ)} → LinesOf s ls → (qs : List (Ask R)) × Each LineAsks ls qs
+  each-asks lines.no-line = ([], no-line)
+  each-asks (lines.last u h) = (no-step ∷ [], line (cut u) no-line)
+  each-asks (lines.another {l} {ls = ls} o c) = go (d .told l o) (each-asks c)
+    where
+      go :
+          ((f : F) × Says l (d .form f)) ⊎ ((f : F) → Says l (d .form f) → ⊥) → (qs : List (Ask R)) × Each LineAsks ls qs
+          → (qs : List (Ask R)) × Each LineAsks (l ∷ ls) qs
+      go (inl (f, s)) w = (request (d .asked f) ∷ w .0, line (says f s) (w .1))
+      go (inr h) w = (no-step ∷ w .0, line (other o h) (w .1))
+
+  -- and for that alone
+  pub each-once : {ls : List (List ℕ)} {ps qs : List (Ask R)} → Each LineAsks ls ps → Each LineAsks ls qs → ps ≡ qs
+  each-once no-line no-line = refl
+  each-once (line {l} p c) (line q e) = λ i. asks-once (d .once l) p q i ∷ each-once c e i
+
+  pub each-at : {ls : List (List ℕ)} {qs : List (Ask R)} → Each LineAsks ls qs → (i : ℕ) → LineAsks (getD ls i []) (getD qs i no-step)
+  each-at no-line i = cut empty
+  each-at (line p c) zero = p
+  each-at (line p c) (suc i) = each-at c i
 
 -- ---- the announcement
 
@@ -193,53 +229,25 @@ module _ (p : Request → Bool) where
 
 -- the steps of a detector: what they say, what they ask for, and that one of them alone is the announcement
 pub record Steps (F : Type 0) : Type 1 where
-  pub form : F → Form
-  pub asked : F → Request
+  pub read : Reads F Request
   pub announces : Request → Bool
   pub last : F
-  pub is : form last ≡ announce
-  pub does : announces (asked last) ≡ true
-  pub only : (f : F) → announces (asked f) ≡ true → form f ≡ announce
-  pub once : (l : List ℕ) (f g : F) → Says l (form f) → Says l (form g) → f ≡ g
-  pub told : (l : List ℕ) → OneLine l → ((f : F) × Says l (form f)) ⊎ ((f : F) → Says l (form f) → ⊥)
+  pub is : read .form last ≡ announce
+  pub does : announces (read .asked last) ≡ true
+  pub only : (f : F) → announces (read .asked f) ≡ true → read .form f ≡ announce
 
 module _ {F : Type 0} (d : Steps F) where
-  abbrev pub LineAsks : List ℕ → Ask → Type 0
-  LineAsks = Asks (d .form) (λ f. request (d .asked f)) no-step
-
-  -- the lines of a text ask for something each
-  pub each-asks : {s : List ℕ} {ls : List (List ℕ)} → LinesOf s ls → (qs : List Ask) × Each LineAsks ls qs
-  each-asks lines.no-line = ([], no-line)
-  each-asks (lines.last u h) = (no-step ∷ [], line (cut u) no-line)
-  each-asks (lines.another {l} {ls = ls} o c) = go (d .told l o) (each-asks c)
-    where
-      go :
-          ((f : F) × Says l (d .form f)) ⊎ ((f : F) → Says l (d .form f) → ⊥) → (qs : List Ask) × Each LineAsks ls qs
-          → (qs : List Ask) × Each LineAsks (l ∷ ls) qs
-      go (inl (f, s)) w = (request (d .asked f) ∷ w .0, line (says f s) (w .1))
-      go (inr h) w = (no-step ∷ w .0, line (other o h) (w .1))
-
-  -- and for that alone
-  pub each-once : {ls : List (List ℕ)} {ps qs : List Ask} → Each LineAsks ls ps → Each LineAsks ls qs → ps ≡ qs
-  each-once no-line no-line = refl
-  each-once (line {l} p c) (line q e) = λ i. asks-once (d .once l) p q i ∷ each-once c e i
-
-  each-at : {ls : List (List ℕ)} {qs : List Ask} → Each LineAsks ls qs → (i : ℕ) → LineAsks (getD ls i []) (getD qs i no-step)
-  each-at no-line i = cut empty
-  each-at (line p c) zero = p
-  each-at (line p c) (suc i) = each-at c i
-
   -- a line `(announce)` asks for the announcement
   announce-asks :
-      {ls : List (List ℕ)} {qs : List Ask} → Each LineAsks ls qs → (i : ℕ) → Says (getD ls i []) announce
-      → getD qs i no-step ≡ request (d .asked (d .last))
+      {ls : List (List ℕ)} {qs : List (Ask Request)} → Each (LineAsks (d .read)) ls qs → (i : ℕ) → Says (getD ls i []) announce
+      → getD qs i no-step ≡ request (d .read .asked (d .last))
   announce-asks {ls} c i q =
-      asks-once (d .once (getD ls i [])) (each-at c i) (says (d .last) (subst (Says (getD ls i [])) (sym (d .is)) q))
+      asks-once (d .read .once (getD ls i [])) (each-at (d .read) c i) (says (d .last) (subst (Says (getD ls i [])) (sym (d .is)) q))
 
   -- and no other line does
-  announce-only : {l : List ℕ} {a : Ask} {x : Request} → LineAsks l a → a ≡ request x → d .announces x ≡ true → Says l announce
+  announce-only : {l : List ℕ} {a : Ask Request} {x : Request} → LineAsks (d .read) l a → a ≡ request x → d .announces x ≡ true → Says l announce
   announce-only {l} {x = x} (says f s) e y =
-      let same : d .asked f ≡ x = cc in subst (Says l) (d .only f (ap (d .announces) same ∙ y)) s
+      let same : d .read .asked f ≡ x = cc in subst (Says l) (d .only f (ap (d .announces) same ∙ y)) s
   announce-only (other o h) e y = absurd (let z : _≡_ {A = ℕ} 0 1 = cc in let w : ⊥ = omega arith in w)
   announce-only (cut u) e y = absurd (let z : _≡_ {A = ℕ} 0 1 = cc in let w : ⊥ = omega arith in w)
 
@@ -247,21 +255,21 @@ module _ {F : Type 0} (d : Steps F) where
   pub record Left {S : Type 0} (m : Machine S Request) (Step : Request → Type 0) (t : S) (K : ℕ) (ys : List Request) : Type 0 where
     pub one-of : (x : Request) → Accepts m (runOf m t ys) x → Step x ⊎ (d .announces x ≡ true)
     pub at-most : length (acceptedOf m t ys) ≤ K
-    pub exactly : Accepts m (runOf m t ys) (d .asked (d .last)) ↔ (length (acceptedOf m t ys) ≡ K)
+    pub exactly : Accepts m (runOf m t ys) (d .read .asked (d .last)) ↔ (length (acceptedOf m t ys) ≡ K)
 
-  module _ {S : Type 0} (m : Machine S Request) (s : S) {ls : List (List ℕ)} {qs : List Ask} (c : Each LineAsks ls qs) where
-    pub announce-ok : (i : ℕ) → AnnouncedAt m s qs ls i → Accepts m (runOf m s (said qs i)) (d .asked (d .last))
-    announce-ok i a = subst (λ (b : Ask). verdictOn m (runOf m s (said qs i)) b ≡ Accepted) (announce-asks c i (a .0)) (a .1)
+  module _ {S : Type 0} (m : Machine S Request) (s : S) {ls : List (List ℕ)} {qs : List (Ask Request)} (c : Each (LineAsks (d .read)) ls qs) where
+    pub announce-ok : (i : ℕ) → AnnouncedAt m s qs ls i → Accepts m (runOf m s (said qs i)) (d .read .asked (d .last))
+    announce-ok i a = subst (λ (b : Ask Request). verdictOn m (runOf m s (said qs i)) b ≡ Accepted) (announce-asks c i (a .0)) (a .1)
 
     -- an announcement that is accepted is among the requests that are
     announced : (i : ℕ) → AnnouncedAt m s qs ls i → any (d .announces) (acceptedOf m s (said qs (suc i))) ≡ true
     unfolding acceptedOf
     announced i a =
         let t = runOf m s (said qs i) in
-        let x = d .asked (d .last) in
+        let x = d .read .asked (d .last) in
         let early = acceptedOf m s (said qs i) in
         let here = acceptedOf m t (requestsIn (getD qs i no-step ∷ [])) in
-        let asks : here ≡ acceptedOf m t (x ∷ []) = ap (λ (b : Ask). acceptedOf m t (requestsIn (b ∷ []))) (announce-asks c i (a .0)) in
+        let asks : here ≡ acceptedOf m t (x ∷ []) = ap (λ (b : Ask Request). acceptedOf m t (requestsIn (b ∷ []))) (announce-asks c i (a .0)) in
         let one : here ≡ x ∷ [] = asks ∙ ap (λ (v : Verdict). settle v (x ∷ []) []) (announce-ok i a) in
         ap (any (d .announces)) (accepted-next m s qs i)
         ∙ (any-append (d .announces) early here
@@ -283,7 +291,7 @@ module _ {F : Type 0} (d : Steps F) where
         ∙ (any-append (d .announces) (acceptedOf m s (said qs j)) one
         ∙ (ap (λ (b : Bool). b || any (d .announces) one) (unannounced j (λ i k. h i (omega arith))) ∙ here (getD qs j no-step) refl))
       where
-        here : (a : Ask) → getD qs j no-step ≡ a → any (d .announces) (acceptedOf m (runOf m s (said qs j)) (requestsIn (a ∷ []))) ≡ false
+        here : (a : Ask Request) → getD qs j no-step ≡ a → any (d .announces) (acceptedOf m (runOf m s (said qs j)) (requestsIn (a ∷ []))) ≡ false
         here no-step e = refl
         here (request x) e = go (m .verdict (runOf m s (said qs j)) x) refl (d .announces x) refl
           where
@@ -292,7 +300,7 @@ module _ {F : Type 0} (d : Steps F) where
                 → any (d .announces) (settle v (x ∷ []) []) ≡ false
             go (Refused f) p b y = refl
             go Accepted p false y = rw y
-            go Accepted p true y = absurd (h j (omega arith) (announce-only (each-at c j) e y, ap (verdictOn m (runOf m s (said qs j))) e ∙ p))
+            go Accepted p true y = absurd (h j (omega arith) (announce-only (each-at (d .read) c j) e y, ap (verdictOn m (runOf m s (said qs j))) e ∙ p))
 
     -- so the later ones say no more
     unannounced-between :
@@ -332,11 +340,11 @@ module _ {F : Type 0} (d : Steps F) where
         same : (j : ℕ) → i ≤ j → {x : Request} → getD qs j no-step ≡ request x
             → OkAt m s qs j ↔ Accepts m (runOf m (runOf m s (said qs i)) (between qs i j)) x
         same j h {x} is = (
-          λ ok. subst (λ (t : S). Accepts m t x) (there j h) (subst (λ (b : Ask). verdictOn m (runOf m s (said qs j)) b ≡ Accepted) is ok),
+          λ ok. subst (λ (t : S). Accepts m t x) (there j h) (subst (λ (b : Ask Request). verdictOn m (runOf m s (said qs j)) b ≡ Accepted) is ok),
           λ a. ap (verdictOn m (runOf m s (said qs j))) is ∙ subst (λ (t : S). Accepts m t x) (sym (there j h)) a,
         )
 
         one : (j : ℕ) (x : Request) → getD qs j no-step ≡ request x → Step x ⊎ (d .announces x ≡ true)
             → ((x : Request) × (getD qs j no-step ≡ request x) × Step x) ⊎ Says (getD ls j []) announce
         one j x e (inl p) = inl (x, e, p)
-        one j x e (inr y) = inr (announce-only (each-at c j) e y)
+        one j x e (inr y) = inr (announce-only (each-at (d .read) c j) e y)

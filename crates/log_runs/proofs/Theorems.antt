@@ -1,6 +1,7 @@
 -- The statement of specs/Theorems.antt, proved. Assumes nothing.
 use Prim.Native.Nat.{_+_, suc, zero, ℕ}
-use borrow.Author.Tests.{leb-true, ltb-true, not-false}
+use borrow.Author.Tests.{leb-true, ltb-false, ltb-true, not-false}
+use lib.Dec.{leb, ltb}
 use lib.ListN.{getD, length, take}
 use mathlib.Core.Bool.{Bool, _&&_, cond, false, true}
 use mathlib.Core.List.{List, [], _++_, _∷_, append-assoc}
@@ -9,19 +10,20 @@ use mathlib.Core.Path.{_∙_, _≡_, ap, refl, subst, sym}
 use native.Mathlib.Nat.{add-zero}
 use native.Mathlib.Omega.{arith}
 use Rattle.first_line.specs.Read.{firstAt}
-use Rattle.first_line.specs.Start.{seenOf}
+use Rattle.first_line.specs.Start.{seen, seenOf}
 use Rattle.first_line.specs.declared.First.{First}
 use Rattle.first_line.specs.declared.FirstKind.{FirstKind}
 use Rattle.forms.specs.Form.{Says, announce}
-use Rattle.forms.specs.Read.{ringAt, treeAt}
+use Rattle.forms.specs.Read.{Read, ringAt, treeAt}
+use Rattle.first_line.specs.Meaning.{Flags}
 use Rattle.forms.specs.declared.RingLine.{RingLine}
 use Rattle.forms.specs.declared.RingStep.{RingStep}
 use Rattle.forms.specs.declared.TreeLine.{TreeLine}
 use Rattle.laws.proofs.Tests.{both}
-use Rattle.first_line.proofs.Flags.{seen-flags}
-use Rattle.log_rules.proofs.First.{flags-fit}
+use Rattle.first_line.proofs.Flags.{seen-flags, zero-flags}
+use Rattle.log_rules.proofs.First.{flags-fit, update-verdict}
 use Rattle.log_rules.proofs.Theorems.{lines-say}
-use Rattle.log_rules.specs.Answers.{Stage, Told, answerText, firstTold, fresh, isMove, lineTold, onRing, onTree, ringRequest, ringTable, ringTold, treeRequest, treeTold}
+use Rattle.log_rules.specs.Answers.{Stage, Told, answerText, firstTold, fresh, freshTold, isMove, lineTold, noMoves, onRing, onTable, onTree, openedBy, ringRequest, ringTable, ringTold, treeRequest, treeTold, updateAsk, updateFirst, updateOpened, updateTable}
 use Rattle.log_rules.specs.Output.{linesTold}
 use Rattle.log_rules.specs.Theorems.{LinesOf}
 use Rattle.refusal.proofs.Table.{none-holds, not-both}
@@ -32,13 +34,26 @@ use Rattle.refusal.specs.declared.Verdict.{Verdict}
 use Rattle.refusal.specs.declared.Verdict.the-variants.{Accepted, Refused}
 use Rattle.runs.specs.Runs.{Accepts, Request, acceptedOf, next, runOf}
 use Rattle.tree_runs.specs.WholeRun.{stepsBy}
-use Rattle.log_runs.proofs.Detectors.{ring-steps, tree-steps}
+use Rattle.table_rules.proofs.Soundness.{empty-sound}
+use Rattle.table_rules.proofs.Theorems.{table-answered, table-kept}
+use Rattle.table_rules.specs.Answers.{after}
+use Rattle.table_rules.specs.Soundness.{SoundTable}
+use Rattle.table_rules.specs.Table.{Table, emptyTable}
+use Rattle.update_forms.proofs.Held.{wrapped-flags}
+use Rattle.update_forms.specs.Read.{wrappedAt, wrappedSeen}
+use Rattle.update_forms.specs.Wrapped.{Wrapped}
+use Rattle.log_runs.proofs.Detectors.{move-is, no-move, ring-reads, tree-reads}
+use Rattle.log_runs.proofs.Updates.{update-each, update-reads, update-requests}
 use Rattle.log_runs.proofs.Runs.{each-asks, each-once}
-use Rattle.log_runs.proofs.First.{asks-once, first-asks, first-told, ring-accepted, start-once, tree-accepted}
+use Rattle.log_runs.proofs.First.{asks-once, first-asks, first-told, opening-once, ring-accepted, tree-accepted, update-accepted}
 use Rattle.log_runs.specs.First.{FirstAsks, StartAsk, no-start}
 use Rattle.log_runs.specs.Says.{Ask, BegunOpen, Each, RingAsks, TreeAsks, cut, line, no-line, other, requestsIn, says, RingSays, TreeSays, moveBy, movesIn, printed, stageAfter}
 use Rattle.log_runs.specs.Theorems.{LogRuns, Ok, RingCountdown}
+use Rattle.log_runs.specs.Updates.{UpdateAsk, UpdatesSay, movesAfter, updates}
 use Rattle.log_rules.specs.Theorems as lines
+use Rattle.first_line.specs.Start as start
+use Rattle.forms.specs.Read as read
+use Rattle.update_forms.specs.Wrapped as wrapped
 use Rattle.first_line.specs.declared.FirstKind.the-variants as line
 use Rattle.forms.specs.declared.RingLine.the-variants as ringLine
 use Rattle.forms.specs.declared.RingStep.the-variants as ringStep
@@ -99,24 +114,15 @@ taken (lines.last {l} u h) (suc n) = go n
 taken (lines.another {l} o c) (suc n) = let w = taken c n in (l ++ w .0, lines.another o (w .1))
 
 ring-asks : {s : List ℕ} {ls : List (List ℕ)} → LinesOf s ls → (xs : List Request) × RingSays ls xs
-ring-asks c = let w = each-asks ring-steps c in (requestsIn (w .0), (w .0, w .1, refl))
+ring-asks c = let w = each-asks ring-reads c in (requestsIn (w .0), (w .0, w .1, refl))
 
 tree-asks : {s : List ℕ} {ls : List (List ℕ)} → LinesOf s ls → (xs : List Request) × TreeSays ls xs
-tree-asks c = let w = each-asks tree-steps c in (requestsIn (w .0), (w .0, w .1, refl))
+tree-asks c = let w = each-asks tree-reads c in (requestsIn (w .0), (w .0, w .1, refl))
+
+update-asks : {s : List ℕ} {ls : List (List ℕ)} → LinesOf s ls → (xs : List UpdateAsk) × UpdatesSay ls xs
+update-asks c = let w = each-asks update-reads c in (requestsIn (w .0), (w .0, w .1, refl))
 
 -- ---- what they lead to
-
-move-is : (f : RingStep) → cond (isMove f && true) 1 0 ≡ moveBy (ringCounts.kind (ringRequest f))
-move-is (ringStep.Send i j) = refl
-move-is (ringStep.Take i) = refl
-move-is (ringStep.Idle i) = refl
-move-is ringStep.Probe = refl
-move-is (ringStep.Pass i) = refl
-move-is ringStep.Announce = refl
-
-no-move : (b : Bool) → _≡_ {A = ℕ} (cond (b && false) 1 0) 0
-no-move true = refl
-no-move false = refl
 
 moved :
     (f : RingStep) (v : Verdict) (acc : List Request) (m : ℕ)
@@ -126,7 +132,7 @@ moved f Accepted acc m = omega (arith, move-is f)
 moved f (Refused e) acc m = omega (arith, no-move (isMove f))
 
 ring-each :
-    (r : ringState.State) (m k : ℕ) {ls : List (List ℕ)} {qs : List Ask} → Each RingAsks ls qs
+    (r : ringState.State) (m k : ℕ) {ls : List (List ℕ)} {qs : List (Ask Request)} → Each RingAsks ls qs
     → stageAfter (onRing r m) k ls
     ≡ onRing (runOf ringCounts.ring r (requestsIn qs)) (m + movesIn (acceptedOf ringCounts.ring r (requestsIn qs)))
 unfolding stageAfter runOf acceptedOf movesIn ringAnswers.answerOf
@@ -151,7 +157,7 @@ ring-state r m k c =
     ∙ ap (λ (xs : List Request). onRing (runOf ringCounts.ring r xs) (m + movesIn (acceptedOf ringCounts.ring r xs))) (c .2)
 
 tree-each :
-    (t : treeState.State) (k : ℕ) {ls : List (List ℕ)} {qs : List Ask} → Each TreeAsks ls qs
+    (t : treeState.State) (k : ℕ) {ls : List (List ℕ)} {qs : List (Ask Request)} → Each TreeAsks ls qs
     → stageAfter (onTree t) k ls ≡ onTree (runOf treeCounts.tree t (requestsIn qs))
 unfolding stageAfter runOf treeAnswers.answerOf
 tree-each t k no-line = refl
@@ -167,6 +173,12 @@ tree-state :
     (t : treeState.State) (k : ℕ) {ls : List (List ℕ)} {xs : List Request} → TreeSays ls xs
     → stageAfter (onTree t) k ls ≡ onTree (runOf treeCounts.tree t xs)
 tree-state t k c = tree-each t k (c .1) ∙ ap (λ (xs : List Request). onTree (runOf treeCounts.tree t xs)) (c .2)
+
+update-state :
+    (t : Table) (ms : List ℕ) (k : ℕ) {ls : List (List ℕ)} {xs : List UpdateAsk} → UpdatesSay ls xs
+    → stageAfter (onTable t ms) k ls ≡ onTable (runOf updates t xs) (movesAfter ms (acceptedOf updates t xs))
+update-state t ms k c =
+    update-each t ms k (c .1) ∙ ap (λ (xs : List UpdateAsk). onTable (runOf updates t xs) (movesAfter ms (acceptedOf updates t xs))) (c .2)
 
 -- ---- an announcement that is printed
 
@@ -273,6 +285,16 @@ asks : {s l : List ℕ} {ls : List (List ℕ)} → LinesOf s (l ∷ ls) → (a :
 asks (lines.last u h) = (no-start, cut u)
 asks (lines.another {l} o c) = first-asks l o
 
+-- the table that an accepted start begins
+opened-sound : (u : ℕ) (g : First) → Flags (g .flags) → firstOf (updateTable emptyTable u g) ≡ Accepted → SoundTable (after emptyTable (updateAsk u g))
+opened-sound u g flags e = go (none-holds (updateTable emptyTable u g) e)
+  where
+    go : NoneHolds (updateTable emptyTable u g) → SoundTable (after emptyTable (updateAsk u g))
+    go (also a (also b (also c (also d rest)))) =
+        let many = leb-true (g .n) 96 (both (ltb 0 (g .n)) (leb (g .n) 96) (not-false (ltb 0 (g .n) && leb (g .n) 96) c) .1) in
+        let v = update-verdict g flags many emptyTable empty-sound u (ltb-false (g .n) (g .top) d) ∙ e in
+        subst SoundTable (table-answered .next emptyTable (updateAsk u g) v) (table-kept .accepted emptyTable (updateAsk u g) v)
+
 first : (l : List ℕ) → BegunOpen (lineTold fresh 1 l .stage)
 unfolding lineTold
 first l = go (seenOf (firstAt l 0) .kind)
@@ -293,27 +315,45 @@ first l = go (seenOf (firstAt l 0) .kind)
     tree Accepted e = rw e (treeStart.first-open (f .n) (f .root) (treeStart.fits (f .n) (f .root) e))
     tree (Refused x) e = rw e tt
 
-    go : (k : FirstKind) → BegunOpen (firstTold k f .stage)
+    update-open : (u : ℕ) (g : First) → Flags (g .flags) → BegunOpen (updateOpened u g .stage)
+    update-open u g flags = by (firstOf (updateTable emptyTable u g)) refl
+      where
+        by : (v : Verdict) → firstOf (updateTable emptyTable u g) ≡ v → BegunOpen (openedBy v (onTable (after emptyTable (updateAsk u g)) noMoves) .stage)
+        by Accepted e = (opened-sound u g flags e, refl)
+        by (Refused x) e = tt
+
+    update : (w : Read Wrapped) → wrappedAt l 0 ≡ w → BegunOpen (updateFirst w .stage)
+    update (read.read (wrapped.step u h) e) p = tt
+    update (read.read (wrapped.bare u n) e) p = update-open u (seen (start.bare n) e) zero-flags
+    update (read.read (wrapped.lists u n a b) e) p = update-open u (seen (start.lists n a b) e) (subst (λ (w : Read Wrapped). Flags (wrappedSeen w .first .flags)) p (wrapped-flags l 0))
+    update read.other p = tt
+
+    go : (k : FirstKind) → BegunOpen (freshTold k f (wrappedAt l 0) .stage)
     go line.Ring = ring (firstOf (ringTable f)) refl
     go line.Tree = tree (treeFirst.startVerdict (f .n) (f .root)) refl
-    go line.NotAForm = tt
+    go line.NotAForm = update (wrappedAt l 0) refl
 
 pub log-runs : LogRuns
 log-runs = record {
   output = output;
   first-asks = asks;
-  first-once = λ {l} p q. asks-once (start-once l) p q;
+  first-once = λ {l} p q. asks-once (opening-once l) p q;
   first-told = first-told;
   ring-started = ring-accepted;
   tree-started = tree-accepted;
+  update-started = update-accepted;
   first = first;
   taken = taken;
   ring-asks = ring-asks;
   tree-asks = tree-asks;
-  ring-once = each-once ring-steps;
-  tree-once = each-once tree-steps;
+  ring-once = each-once ring-reads;
+  tree-once = each-once tree-reads;
   ring-state = ring-state;
   tree-state = tree-state;
+  update-asks = update-asks;
+  update-once = each-once update-reads;
+  update-state = update-state;
+  update-requests = update-requests;
   ring-quiet = ring-quiet;
   tree-quiet = tree-quiet;
   ring-countdown = ring-countdown;

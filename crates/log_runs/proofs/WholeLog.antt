@@ -23,13 +23,14 @@ use Rattle.forms.specs.declared.TreeStep.the-variants as treeStep
 use Rattle.runs.specs.Runs.{Accepts, Request, acceptedOf, runOf}
 use Rattle.tree_rules.specs.Termination.{Closing}
 use Rattle.tree_runs.specs.WholeRun.{stepsBy}
-use Rattle.log_runs.proofs.Detectors.{ring-answers, ring-steps, tree-answers, tree-steps}
+use Rattle.log_runs.proofs.Detectors.{ring-answers, ring-reads, ring-steps, tree-answers, tree-reads, tree-steps}
 use Rattle.log_runs.proofs.First.{first-told, ring-accepted, tree-accepted}
 use Rattle.log_runs.proofs.Runs.{Left, announce-ok, counts-down, each-asks, lines-printed, none-after, told-printed, unannounced}
 use Rattle.log_runs.proofs.Theorems.{log-runs}
 use Rattle.log_runs.specs.First.{FirstAsks, StartAsk, begun, firstVerdict, flagsTo, no-start, ring-start, tree-start}
 use Rattle.log_runs.specs.Says.{Ask, Each, RingAsks, TreeAsks, movesIn, printed, requestsIn, stageAfter}
-use Rattle.log_runs.specs.WholeLog.{LogBy, RingLog, TreeLog, WholeLog, answers, said}
+use Rattle.log_runs.specs.WholeLog.{LogBy, RingLog, TreeLog, WholeLog}
+use Rattle.log_runs.specs.Answered.{answers, said}
 use Rattle.log_rules.specs.Theorems as lines
 use Rattle.log_rules.specs.Answers as rules
 use Rattle.ring_rules.specs.Soundness as ringSound
@@ -103,7 +104,7 @@ module _ (n : ℕ) (flags : List ℕ) (started : ringStart.startVerdict n flags 
 
   ring-log : (s : List ℕ) (ls : List (List ℕ))
       → outputOf s ≡ answerText 1 Accepted ++ (printed (onRing ring-first 0) 2 ls ++ endText (stageAfter (onRing ring-first 0) 2 ls))
-      → (qs : List Ask) → Each RingAsks ls qs → RingLog s ls n ring-first
+      → (qs : List (Ask Request)) → Each RingAsks ls qs → RingLog s ls n ring-first
   ring-log s ls o qs c = record {
     asks = qs;
     says = c;
@@ -156,7 +157,7 @@ module _ (n root : ℕ) (started : treeStart.startVerdict n root ≡ Accepted) w
 
   tree-log : (s : List ℕ) (ls : List (List ℕ))
       → outputOf s ≡ answerText 1 Accepted ++ (printed (onTree tree-first) 2 ls ++ endText (stageAfter (onTree tree-first) 2 ls))
-      → (qs : List Ask) → Each TreeAsks ls qs → TreeLog s ls n root tree-first
+      → (qs : List (Ask Request)) → Each TreeAsks ls qs → TreeLog s ls n root tree-first
   tree-log s ls o qs c = record {
     asks = qs;
     says = c;
@@ -190,10 +191,10 @@ told-by :
     → (v : Verdict) → firstVerdict a ≡ v → LogBy s ls a v
 told-by s l ls o c a f (Refused x) e = refused s l ls o f e
 told-by s l ls o c (ring-start n active black) f Accepted e =
-    let w = each-asks ring-steps c in
+    let w = each-asks ring-reads c in
     ring-log n (flagsTo active black n) (ring-accepted n active black e) s ls (accepted s l ls o f e) (w .0) (w .1)
 told-by s l ls o c (tree-start n root) f Accepted e =
-    let w = each-asks tree-steps c in tree-log n root (tree-accepted n root e) s ls (accepted s l ls o f e) (w .0) (w .1)
+    let w = each-asks tree-reads c in tree-log n root (tree-accepted n root e) s ls (accepted s l ls o f e) (w .0) (w .1)
 told-by s l ls o c no-start f Accepted e = not-both e refl
 
 pub whole-log : WholeLog

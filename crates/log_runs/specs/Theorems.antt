@@ -2,18 +2,23 @@
 -- tree_runs) speaks of it. `WholeLog` (WholeLog.antt) puts it together for every list of bytes. The proofs are in proofs/Theorems.antt.
 use Prim.Native.Nat.{_*_, _+_, _-_, _≤_, ℕ}
 use lib.ListN.{length, take}
-use mathlib.Core.List.{List, _++_, _∷_}
+use mathlib.Core.List.{List, _++_, _∷_, map}
 use mathlib.Core.Logic.{_↔_}
 use mathlib.Core.Path.{_≡_}
 use Rattle.forms.specs.Form.{Says, announce}
-use Rattle.log_rules.specs.Answers.{Stage, answerText, fresh, lineTold, onRing, onTree, openedBy}
+use Rattle.log_rules.specs.Answers.{Stage, answerText, fresh, lineTold, onRing, onTable, onTree, openedBy}
 use Rattle.log_rules.specs.Output.{linesTold}
 use Rattle.log_rules.specs.Theorems.{LinesOf}
 use Rattle.refusal.specs.declared.Verdict.the-variants.{Accepted}
 use Rattle.runs.specs.Runs.{Request, acceptedOf, runOf}
+use Rattle.table_rules.specs.Answers.{Start, verdictOn}
+use Rattle.table_rules.specs.Runs.{table}
+use Rattle.table_rules.specs.Soundness.{SoundTable}
+use Rattle.table_rules.specs.Table.{Table, emptyTable}
 use Rattle.tree_runs.specs.WholeRun.{stepsBy}
-use Rattle.log_runs.specs.First.{FirstAsks, StartAsk, begun, firstVerdict, flagsTo, ring-start, tree-start}
+use Rattle.log_runs.specs.First.{FirstAsks, StartAsk, begun, firstVerdict, flagsTo, ring-start, tree-start, update-start}
 use Rattle.log_runs.specs.Says.{Ask, BegunOpen, Each, RingAsks, RingSays, TreeAsks, TreeSays, movesIn, printed, stageAfter}
+use Rattle.log_runs.specs.Updates.{UpdateAsk, UpdateAsks, UpdatesSay, movesAfter, tableAsk, toTable, updates}
 use Rattle.ring_rules.specs.State as ringState
 use Rattle.ring_rules.specs.Soundness as ringSound
 use Rattle.ring_rules.specs.Start as ringStart
@@ -53,14 +58,19 @@ pub record LogRuns : Type 0 where
       (n : ℕ) (active black : List ℕ) → firstVerdict (ring-start n active black) ≡ Accepted
       → ringStart.startVerdict n (flagsTo active black n) ≡ Accepted
   pub tree-started : (n root : ℕ) → firstVerdict (tree-start n root) ≡ Accepted → treeStart.startVerdict n root ≡ Accepted
+  pub update-started :
+      (u n : ℕ) (active black : List ℕ) → firstVerdict (update-start u n active black) ≡ Accepted
+      → verdictOn emptyTable (Start u n (flagsTo active black n)) ≡ Accepted
   -- so the first line begins an open run, or none
   pub first : (l : List ℕ) → BegunOpen (lineTold fresh 1 l .stage)
   -- the lines that are read of a log, its first n, are the lines of a text too; and the lines of every text say requests, and these alone
   pub taken : {s : List ℕ} {ls : List (List ℕ)} → LinesOf s ls → (n : ℕ) → (s′ : List ℕ) × LinesOf s′ (take n ls)
   pub ring-asks : {s : List ℕ} {ls : List (List ℕ)} → LinesOf s ls → (xs : List Request) × RingSays ls xs
   pub tree-asks : {s : List ℕ} {ls : List (List ℕ)} → LinesOf s ls → (xs : List Request) × TreeSays ls xs
-  pub ring-once : {ls : List (List ℕ)} {ps qs : List Ask} → Each RingAsks ls ps → Each RingAsks ls qs → ps ≡ qs
-  pub tree-once : {ls : List (List ℕ)} {ps qs : List Ask} → Each TreeAsks ls ps → Each TreeAsks ls qs → ps ≡ qs
+  pub ring-once : {ls : List (List ℕ)} {ps qs : List (Ask Request)} → Each RingAsks ls ps → Each RingAsks ls qs → ps ≡ qs
+  pub tree-once : {ls : List (List ℕ)} {ps qs : List (Ask Request)} → Each TreeAsks ls ps → Each TreeAsks ls qs → ps ≡ qs
+  pub update-asks : {s : List ℕ} {ls : List (List ℕ)} → LinesOf s ls → (xs : List UpdateAsk) × UpdatesSay ls xs
+  pub update-once : {ls : List (List ℕ)} {ps qs : List (Ask UpdateAsk)} → Each UpdateAsks ls ps → Each UpdateAsks ls qs → ps ≡ qs
   -- and the log comes to what these requests lead to; "moves are accepted token moves"
   pub ring-state :
       (r : ringState.State) (m k : ℕ) {ls : List (List ℕ)} {xs : List Request} → RingSays ls xs
@@ -68,6 +78,14 @@ pub record LogRuns : Type 0 where
   pub tree-state :
       (t : treeState.State) (k : ℕ) {ls : List (List ℕ)} {xs : List Request} → TreeSays ls xs
       → stageAfter (onTree t) k ls ≡ onTree (runOf treeCounts.tree t xs)
+  -- "moves counted from its latest start"
+  pub update-state :
+      (t : Table) (ms : List ℕ) (k : ℕ) {ls : List (List ℕ)} {xs : List UpdateAsk} → UpdatesSay ls xs
+      → stageAfter (onTable t ms) k ls ≡ onTable (runOf updates t xs) (movesAfter ms (acceptedOf updates t xs))
+  -- which are requests to the table, judged and carried out as the table does
+  pub update-requests :
+      (t : Table) → SoundTable t → (xs : List UpdateAsk)
+      → (runOf updates t xs ≡ runOf table t (toTable xs)) × (acceptedOf table t (toTable xs) ≡ map tableAsk (acceptedOf updates t xs))
   -- `(ok j)` is printed for an announce line only if every node is passive and no message is in transit, counted from the start and the
   -- requests accepted before it
   pub ring-quiet :

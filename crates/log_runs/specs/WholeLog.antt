@@ -18,11 +18,14 @@ use Rattle.refusal.specs.declared.Verdict.the-variants.{Accepted, Refused}
 use Rattle.ring_rules.specs.Theorems.{TokenMove}
 use Rattle.ring_runs.specs.Counts.{ring}
 use Rattle.runs.specs.Runs.{Machine, Request, acceptedOf, runOf}
+use Rattle.table_rules.specs.Answers.{Start}
 use Rattle.tree_rules.specs.Termination.{Closing}
 use Rattle.tree_runs.specs.Counts.{tree}
 use Rattle.tree_runs.specs.WholeRun.{stepsBy}
-use Rattle.log_runs.specs.First.{FirstAsks, StartAsk, firstVerdict, flagsTo, no-start, ring-start, tree-start}
+use Rattle.log_runs.specs.Answered.{OkAt, answers, oks, said}
+use Rattle.log_runs.specs.First.{FirstAsks, StartAsk, firstVerdict, flagsTo, no-start, ring-start, tree-start, update-start}
 use Rattle.log_runs.specs.Says.{Ask, Each, RingAsks, TreeAsks, movesIn, no-step, request, requestsIn}
+use Rattle.log_runs.specs.UpdateLog.{UpdateLog}
 use Rattle.ring_rules.specs.Start as ringStart
 use Rattle.ring_rules.specs.State as ringState
 use Rattle.ring_runs.specs.Agreement as ringAgreement
@@ -36,65 +39,33 @@ use Rattle.tree_runs.specs.Counts as treeCounts
 use Rattle.tree_runs.specs.View as treeView
 use Rattle.tree_runs.specs.WholeRun as treeRuns
 
--- ---- how the lines after the first are answered
-
--- the requests of lines 2 to 1 + i
-abbrev pub said : List Ask → ℕ → List Request
-said qs i = requestsIn (take i qs)
-
--- the verdict on what a line asks for, where the run has come to s
-abbrev pub verdictOn : {S : Type 0} → Machine S Request → S → Ask → Verdict
-verdictOn m s (request x) = m .verdict s x
-verdictOn m s no-step = Refused NotAForm
-
--- the texts f 0, f 1 .. f (n - 1)
-unfoldable pub textsTo : (ℕ → List ℕ) → ℕ → List ℕ
-textsTo f zero = []
-textsTo f (suc n) = f 0 ++ textsTo (λ i. f (suc i)) n
+-- ---- the announcement, and the steps that are left before it
 
 -- A run of the machine m from s, whose lines, 2 and on, are `lines` and ask for `qs`.
-module _ {S : Type 0} (m : Machine S Request) (s : S) (qs : List Ask) where
-  -- the verdict on line 2 + i: the machine's, on the state that the requests of the lines before it lead to
-  abbrev pub verdictAt : ℕ → Verdict
-  verdictAt i = verdictOn m (runOf m s (said qs i)) (getD qs i no-step)
+module _ {S : Type 0} (m : Machine S Request) (s : S) (qs : List (Ask Request)) (lines : List (List ℕ)) where
+  -- line 2 + i is `(announce)`, and is answered with ok
+  abbrev pub AnnouncedAt : ℕ → Type 0
+  AnnouncedAt i = Says (getD lines i []) announce × OkAt m s qs i
 
-  -- the answers to these lines
-  abbrev pub answers : List ℕ
-  answers = textsTo (λ i. answerText (2 + i) (verdictAt i)) (length qs)
+  -- no line before line 2 + j is so
+  abbrev pub NoneBefore : ℕ → Type 0
+  NoneBefore j = (i : ℕ) → i < j → AnnouncedAt i → ⊥
 
-  -- line 2 + i is answered with ok
-  abbrev pub OkAt : ℕ → Type 0
-  OkAt i = verdictAt i ≡ Accepted
-
-  -- how many of lines 2 to 1 + i are
-  abbrev pub oks : ℕ → ℕ
-  oks zero = 0
-  oks (suc i) = oks i + cond (isAccepted (verdictAt i)) 1 0
-
-  module _ (lines : List (List ℕ)) where
-    -- line 2 + i is `(announce)`, and is answered with ok
-    abbrev pub AnnouncedAt : ℕ → Type 0
-    AnnouncedAt i = Says (getD lines i []) announce × OkAt i
-
-    -- no line before line 2 + j is so
-    abbrev pub NoneBefore : ℕ → Type 0
-    NoneBefore j = (i : ℕ) → i < j → AnnouncedAt i → ⊥
-
-    -- K steps of a kind are left at line 2 + i. At line 2 + j, there or later, as long as no announcement is accepted before it:
-    pub record CountsDown (Step : Request → Type 0) (i K : ℕ) : Type 0 where
-      -- it is answered with ok only if it asks for such a step or is `(announce)`
-      pub alone :
-          (j : ℕ) → i ≤ j → NoneBefore j → OkAt j → ((x : Request) × (getD qs j no-step ≡ request x) × Step x) ⊎ Says (getD lines j []) announce
-      -- of the lines in between at most K are answered with ok
-      pub at-most : (j : ℕ) → i ≤ j → NoneBefore j → oks j ≤ oks i + K
-      -- and `(announce)` is, exactly if K are
-      pub exactly : (j : ℕ) → i ≤ j → NoneBefore j → Says (getD lines j []) announce → OkAt j ↔ (oks j ≡ oks i + K)
+  -- K steps of a kind are left at line 2 + i. At line 2 + j, there or later, as long as no announcement is accepted before it:
+  pub record CountsDown (Step : Request → Type 0) (i K : ℕ) : Type 0 where
+    -- it is answered with ok only if it asks for such a step or is `(announce)`
+    pub alone :
+        (j : ℕ) → i ≤ j → NoneBefore j → OkAt m s qs j → ((x : Request) × (getD qs j no-step ≡ request x) × Step x) ⊎ Says (getD lines j []) announce
+    -- of the lines in between at most K are answered with ok
+    pub at-most : (j : ℕ) → i ≤ j → NoneBefore j → oks m s qs j ≤ oks m s qs i + K
+    -- and `(announce)` is, exactly if K are
+    pub exactly : (j : ℕ) → i ≤ j → NoneBefore j → Says (getD lines j []) announce → OkAt m s qs j ↔ (oks m s qs j ≡ oks m s qs i + K)
 
 -- ---- a ring's log
 
 -- The first line of the log s began a ring of n nodes in the state r; `lines` are those after it.
 pub record RingLog (s : List ℕ) (lines : List (List ℕ)) (n : ℕ) (r : ringState.State) : Type 0 where
-  pub asks : List Ask
+  pub asks : List (Ask Request)
   pub says : Each RingAsks lines asks
   -- `(ok 1)`, the answers, and the end line: N, the token's position, the accepted token moves, messages in transit, black nodes
   pub output :
@@ -130,7 +101,7 @@ pub record RingLog (s : List ℕ) (lines : List (List ℕ)) (n : ℕ) (r : ringS
 
 -- The first line of the log s began a tree of n nodes with this root in the state t; `lines` are those after it.
 pub record TreeLog (s : List ℕ) (lines : List (List ℕ)) (n root : ℕ) (t : treeState.State) : Type 0 where
-  pub asks : List Ask
+  pub asks : List (Ask Request)
   pub says : Each TreeAsks lines asks
   -- `(ok 1)`, the answers, and the end line: N, the tree's text, acknowledgements in transit
   pub output :
@@ -160,6 +131,7 @@ abbrev pub LogBy : List ℕ → List (List ℕ) → StartAsk → Verdict → Typ
 LogBy s lines a (Refused e) = outputOf s ≡ answerText 1 (Refused e)
 LogBy s lines (ring-start n active black) Accepted = RingLog s lines n (ringStart.startOf n (flagsTo active black n) .state)
 LogBy s lines (tree-start n root) Accepted = TreeLog s lines n root (treeStart.startOf n root .state)
+LogBy s lines (update-start u n active black) Accepted = UpdateLog s lines n (Start u n (flagsTo active black n))
 LogBy s lines no-start Accepted = ⊥
 
 -- its first line is missing; or it asks for a start or for none, and the verdict on that decides
