@@ -3,5 +3,6 @@ pub mod Runs
 pub mod Detectors
 pub mod Updates
 pub mod Theorems
+pub mod UpdateLog
 pub mod WholeLog
 pub mod Listing

@@ -2,7 +2,7 @@
 -- Assumes nothing.
 use Prim.Native.Nat.{_+_, _-_, _<_, _≤_, suc, zero, ℕ}
 use lib.ListN.{drop, getD, length, length-append, take}
-use lib.Seq.{take-add}
+use lib.Seq.{getD-drop, take-add}
 use mathlib.Core.Bool.{Bool, _||_, cond, false, true}
 use mathlib.Core.List.{List, [], _++_, _∷_, append-assoc}
 use mathlib.Core.Logic.{_↔_, _⊎_, inl, inr}
@@ -102,14 +102,29 @@ said-next (no-step ∷ qs) zero = refl
 said-next (no-step ∷ qs) (suc i) = said-next qs i
 
 -- those of lines 2 + i to 1 + j
-between : {R : Type 0} → List (Ask R) → ℕ → ℕ → List R
+pub between : {R : Type 0} → List (Ask R) → ℕ → ℕ → List R
 between qs i j = requestsIn (take (j - i) (drop i qs))
 
-said-later : {R : Type 0} (qs : List (Ask R)) (i j : ℕ) → i ≤ j → said qs j ≡ said qs i ++ between qs i j
+pub said-later : {R : Type 0} (qs : List (Ask R)) (i j : ℕ) → i ≤ j → said qs j ≡ said qs i ++ between qs i j
 unfolding between
 said-later qs i j h =
     let e : j ≡ i + (j - i) = omega arith in
     ap (said qs) e ∙ (ap requestsIn (take-add i (j - i) qs) ∙ requests-append (take i qs) (take (j - i) (drop i qs)))
+
+pub between-none : {R : Type 0} (qs : List (Ask R)) (i : ℕ) → between qs i i ≡ []
+unfolding between
+between-none qs i = let e : i - i ≡ 0 = omega arith in rw e
+
+pub between-next :
+    {R : Type 0} (qs : List (Ask R)) (i j : ℕ) → i ≤ j → between qs i (suc j) ≡ between qs i j ++ requestsIn (getD qs j no-step ∷ [])
+unfolding between
+between-next qs i j h =
+    let e : suc j - i ≡ suc (j - i) = omega arith in
+    let f : i + (j - i) ≡ j = omega arith in
+    ap (said (drop i qs)) e
+    ∙ (said-next (drop i qs) (j - i)
+    ∙ ap (λ (a : Ask _). said (drop i qs) (j - i) ++ requestsIn (a ∷ []))
+    (getD-drop i qs (j - i) no-step ∙ ap (λ (k : ℕ). getD qs k no-step) f))
 
 -- ---- how many are accepted
 
