@@ -1,45 +1,55 @@
 -- The statement of specs/UpdateLog.antt, proved. Assumes nothing.
-use Prim.Native.Nat.{_+_, _-_, _<_, _≤_, suc, zero, ℕ}
+use Prim.Native.Nat.{_*_, _+_, _-_, _<_, _≤_, suc, zero, ℕ}
 use borrow.Author.Tests.{eq-eqb, eqb-true}
 use lib.Dec.{eqb}
-use lib.ListN.{getD, length, length-append, take}
+use lib.ListN.{getD, getD-replicate, length, length-append}
+use lib.Seq.{ext-getD, take-length}
 use mathlib.Core.Bool.{Bool, _&&_, _||_, cond, false, true}
 use mathlib.Core.List.{List, [], _++_, _∷_, map}
 use mathlib.Core.Logic.{_↔_, _⊎_, inl, inr}
 use mathlib.Core.Path.{_∙_, _≡_, ap, refl, subst, sym}
 use native.Mathlib.Nat.{add-suc, add-zero}
+use native.Mathlib.Decide.{decLt}
 use native.Mathlib.Omega.{arith}
 use Rattle.forms.specs.Form.{Form, Says, announce, update}
-use Rattle.laws.proofs.Tests.{false-true, right-true, split}
-use Rattle.log_rules.specs.Answers.{ringRequest}
+use Rattle.laws.proofs.Tests.{false-true, left-true, right-true, split}
+use Rattle.log_rules.specs.Answers.{Stage, answerText, endText, noMoves, onTable, ringRequest, tableEnd}
+use Rattle.log_rules.specs.Output.{outputOf}
 use Rattle.refusal.proofs.Table.{not-both}
 use Rattle.refusal.specs.Table.{isAccepted, settle}
 use Rattle.refusal.specs.declared.Refusal.{Refusal}
 use Rattle.refusal.specs.declared.Verdict.{Verdict}
 use Rattle.refusal.specs.declared.Verdict.the-variants.{Accepted, Refused}
 use Rattle.ring_rules.specs.Start.{firstState}
-use Rattle.ring_runs.specs.Counts.{announcedIn, isAnnounce, kind}
-use Rattle.runs.proofs.Runs.{accepted-append, run-append}
+use Rattle.ring_rules.specs.State.{State}
+use Rattle.ring_rules.specs.Theorems.{TokenMove}
+use Rattle.ring_rules.proofs.Start.{fits}
+use Rattle.ring_runs.proofs.Trace.{run-n}
+use Rattle.ring_runs.specs.Agreement.{Reachable, sendsMade, shown}
+use Rattle.ring_runs.specs.Counts.{announcedIn, isAnnounce, kind, ring}
+use Rattle.runs.proofs.Runs.{accepted-append, run-append, run-of}
 use Rattle.runs.specs.Runs.{Request, acceptedOf, runOf}
+use Rattle.table_rules.proofs.Slots.{never-started, same-state}
 use Rattle.table_rules.proofs.Soundness.{empty-fixed, empty-sound}
 use Rattle.table_rules.proofs.Theorems.{table-kept, table-numbers}
 use Rattle.table_rules.specs.Answers.{Start, Step, answerOn, verdictOn}
 use Rattle.table_rules.specs.Runs.{table}
 use Rattle.table_rules.specs.Soundness.{SoundTable}
-use Rattle.table_rules.specs.Table.{NotStarted, Started, Table, emptyTable, slotAt}
+use Rattle.table_rules.specs.Table.{NotStarted, Started, Table, emptyTable, fixed, slotAt}
+use Rattle.table_runs.proofs.Agreement.{runs-agree-on}
 use Rattle.table_runs.proofs.Updates.{unknown-step}
-use Rattle.table_runs.proofs.WholeRun.{whole-table}
-use Rattle.table_runs.specs.Counts.{AcceptsOn, History, begun, historyIn, historyNext, historyOf, startedOf, startsIn, stepsIn, takenOf}
-use Rattle.table_runs.specs.WholeRun.{FromStart}
+use Rattle.table_runs.proofs.WholeRun.{history-on, whole-table}
+use Rattle.table_runs.specs.Counts.{AcceptsOn, History, QuietIn, begun, historyIn, historyNext, historyOf, startedOf, startsIn, stepsIn, takenOf}
+use Rattle.table_runs.specs.WholeRun.{Counted, FromStart, OneOfTwo, announcement, token-moves}
 use Rattle.log_runs.proofs.Detectors.{ring-only}
-use Rattle.log_runs.proofs.First.{asks-once, wrapped-once}
-use Rattle.log_runs.proofs.Runs.{between, between-next, between-none, each-at, said-later}
-use Rattle.log_runs.proofs.Updates.{update-reads, update-requests}
-use Rattle.log_runs.specs.Answered.{said, verdictAt}
-use Rattle.log_runs.specs.First.{flagsTo, knownBy}
-use Rattle.log_runs.specs.Says.{Ask, Each, cut, no-step, other, request, requestsIn, says}
-use Rattle.log_runs.specs.UpdateLog.{AnnouncedAt, LineOk, NoAnnouncement, NoStart, OpenAt, QuietAt, StartedAt, UpdateCountsDown, UpdateLog, made, tableAt, tableBegun}
-use Rattle.log_runs.specs.Updates.{UpdateAsk, UpdateAsks, oksOf, start, step, stepsOn, tableAsk, toTable, updates, verdictOf}
+use Rattle.log_runs.proofs.First.{asks-once, list-at, list-length, table-rows, wrapped-once}
+use Rattle.log_runs.proofs.Runs.{between, between-next, between-none, each-at, lines-printed, said-later}
+use Rattle.log_runs.proofs.Updates.{moves-history, moves-length, update-answers, update-each, update-reads, update-requests}
+use Rattle.log_runs.specs.Answered.{answers, said, verdictAt}
+use Rattle.log_runs.specs.First.{flagsTo, knownBy, updateVerdict}
+use Rattle.log_runs.specs.Says.{Ask, Each, cut, listTo, movesIn, no-step, other, printed, request, requestsIn, says, stageAfter}
+use Rattle.log_runs.specs.UpdateLog.{AnnouncedAt, LineOk, NoAnnouncement, NoStart, OpenAt, QuietAt, StartedAt, UpdateCountsDown, UpdateLog, made, movesAt, tableAt, tableBegun}
+use Rattle.log_runs.specs.Updates.{UpdateAsk, UpdateAsks, movesAfter, oksOf, start, step, stepsOn, tableAsk, toTable, updates, verdictOf}
 use Rattle.forms.specs.declared.RingStep.the-variants as ringStep
 use Rattle.table_rules.specs.Answers as asks
 use Rattle.update_forms.specs.Wrapped as wrapped
@@ -345,3 +355,279 @@ module _ (v n : ℕ) (flags : List ℕ) (started : verdictOn emptyTable (Start v
         ap length (steps-append u (acc i j) (one j)),
         length-append (stepsIn u (acc i j)) (stepsIn u (one j)),
       ))
+
+  -- ---- histories
+
+  first-history : (u : ℕ) (rs : List asks.Ask) → historyOf u emptyTable (first ∷ rs) ≡ historyIn u (historyNext u (begun (slotAt emptyTable u)) first) (acceptedOf table (tableBegun first) rs)
+  unfolding acceptedOf answerOn
+  first-history u rs =
+      ap (λ (r : Verdict). historyIn u (begun (slotAt emptyTable u)) (settle r (first ∷ acceptedOf table (tableBegun first) rs) (acceptedOf table (tableBegun first) rs))) started
+
+  first-taken : (u : ℕ) → historyNext u (begun (slotAt emptyTable u)) first .taken ≡ []
+  first-taken u = go (eqb v u)
+    where
+      go : (b : Bool) → cond b (begun (Started (firstState n flags))) (begun (slotAt emptyTable u)) .taken ≡ []
+      go true = refl
+      go false = refl
+
+  abbrev past : ℕ → ℕ → History
+  past u i = historyOf u emptyTable (made first qs i)
+
+  -- an update that is not announced, but where a start follows, has no announcement in its history
+  open-earlier : (u i : ℕ) → (StartedAt first qs u i → ⊥) → OpenAt first qs ls u (suc i) → OpenAt first qs ls u i
+  open-earlier u i bad o k h a = go (o k (omega arith) a)
+    where
+      go :
+          (j : ℕ) × (k < j) × (j < suc i) × StartedAt first qs u j
+          → (j : ℕ) × (k < j) × (j < i) × StartedAt first qs u j
+      go (j, lo, hi, s) = by (decLt j i)
+        where
+          by : Dec (j < i) → (j : ℕ) × (k < j) × (j < i) × StartedAt first qs u j
+          by (yes less) = (j, lo, less, s)
+          by (no more) = let e : j ≡ i = omega arith in absurd (bad (subst (StartedAt first qs u) e s))
+
+  open-history : (u i : ℕ) → OpenAt first qs ls u i → announcedIn (historyOf u emptyTable (made first qs i) .taken) ≡ false
+  unfolding acceptedOf
+  open-history u zero o = ap (λ (h : History). announcedIn (h .taken)) (first-history u []) ∙ ap announcedIn (first-taken u)
+  open-history u (suc i) o =
+      ap (λ (h : History). announcedIn (h .taken)) (history-next u i) ∙ go (line-of u i) (open-history u i)
+    where
+      go : LineOf u i → (OpenAt first qs ls u i → announcedIn (past u i .taken) ≡ false) → announcedIn (historyIn u (past u i) (one i) .taken) ≡ false
+      go (begins s m fl l k) ih =
+          ap (λ (l : List asks.Ask). announcedIn (historyIn u (past u i) l .taken)) l
+          ∙ ap (λ (b : Bool). announcedIn (cond b (begun (Started (firstState m fl))) (past u i) .taken)) (eq-eqb u u refl)
+      go (steps x e ok l k) ih =
+          let bad : StartedAt first qs u i → ⊥ = λ s. let d = s .asks in let z : _≡_ {A = ℕ} 0 1 = cc in let y : ⊥ = omega arith in y in
+          let last : AnnouncedAt first qs ls u i → ⊥ = λ a. let w = o i (omega arith) a in let y : ⊥ = omega (arith, w .1, w .2) in y in
+          ap (λ (l : List asks.Ask). announcedIn (historyIn u (past u i) l .taken)) l
+          ∙ (ap (λ (b : Bool). announcedIn (cond b (record { first = past u i .first; taken = past u i .taken ++ (x ∷ []) }) (past u i) .taken)) (eq-eqb u u refl)
+          ∙ (announced-append (past u i .taken) (x ∷ [])
+          ∙ (ap (λ (b : Bool). b || (isAnnounce (kind x) || false)) (ih (open-earlier u i bad o)) ∙ ap (λ (b : Bool). b || false) (not-last u i x e ok last))))
+      go (passes p) ih = ap (λ (h : History). announcedIn (h .taken)) (p .history (past u i)) ∙ ih (open-earlier u i (p .not-started) o)
+
+  -- ---- demand 3 of update u
+
+  empty-slot : (u : ℕ) → slotAt emptyTable u ≡ NotStarted
+  empty-slot u = table-numbers .none-fixed emptyTable empty-sound empty-fixed u
+
+  not-started : (u i : ℕ) → startedOf u emptyTable (made first qs i) ≡ false → slotAt (tableAt first qs i) u ≡ NotStarted
+  not-started u i e = whole-table .not-started emptyTable empty-sound u (empty-slot u) (made first qs i) e .0
+
+  standing : (u i : ℕ) (r : State) → slotAt (tableAt first qs i) u ≡ Started r → startedOf u emptyTable (made first qs i) ≡ true
+  standing u i r at = go (split (startedOf u emptyTable (made first qs i)))
+    where
+      go : (startedOf u emptyTable (made first qs i) ≡ true) ⊎ (startedOf u emptyTable (made first qs i) ≡ false) → startedOf u emptyTable (made first qs i) ≡ true
+      go (inl e) = e
+      go (inr e) = absurd (never-started (sym (not-started u i e) ∙ at))
+
+  began-started : (u i : ℕ) (r : State) → historyOf u emptyTable (made first qs i) .first ≡ Started r → startedOf u emptyTable (made first qs i) ≡ true
+  began-started u i r b = go (split (startedOf u emptyTable (made first qs i)))
+    where
+      go : (startedOf u emptyTable (made first qs i) ≡ true) ⊎ (startedOf u emptyTable (made first qs i) ≡ false) → startedOf u emptyTable (made first qs i) ≡ true
+      go (inl e) = e
+      go (inr e) =
+          let h = history-on u (acceptedOf table emptyTable (made first qs i)) (begun (slotAt emptyTable u)) e in
+          absurd (never-started (sym (empty-slot u) ∙ (sym (ap (λ (h : History). h .first) h) ∙ b)))
+
+  accepts-started : (u i : ℕ) (x : Request) → AcceptsOn (tableAt first qs i) u x → startedOf u emptyTable (made first qs i) ≡ true
+  accepts-started u i x a = go (split (startedOf u emptyTable (made first qs i)))
+    where
+      go : (startedOf u emptyTable (made first qs i) ≡ true) ⊎ (startedOf u emptyTable (made first qs i) ≡ false) → startedOf u emptyTable (made first qs i) ≡ true
+      go (inl e) = e
+      go (inr e) = absurd (not-both a (unknown-step (tableAt first qs i) (sound-at i) u x (not-started u i e)))
+
+  point : (u i : ℕ) → startedOf u emptyTable (made first qs i) ≡ true → FromStart emptyTable u (made first qs i)
+  point u i e = whole-table .from-start emptyTable empty-sound u (made first qs i) e
+
+  -- a line that is a step of u is answered as the table judges it
+  step-ok : (u i : ℕ) (x : Request) → getD qs i no-step ≡ request (step u x) → LineOk first qs i ↔ AcceptsOn (tableAt first qs i) u x
+  step-ok u i x e =
+      let told : verdictAt updates (tableBegun first) qs i ≡ verdictOn (tableAt first qs i) (Step u x) =
+      ap (answered.verdictOn updates (here i)) e ∙ ap (λ (t : Table). verdictOn t (Step u x)) (judged i) in
+      (λ ok. sym told ∙ ok, λ a. told ∙ a)
+
+  quiet : (u i : ℕ) → AnnouncedAt first qs ls u i → QuietAt first qs u i
+  quiet u i a =
+      let x = ringRequest ringStep.Announce in
+      let granted = step-ok u i x (announce-asks u i (a .0)) .0 (a .1) in
+      let p = point u i (accepts-started u i x granted) in
+      record { r = p .r; began = p .began; quiet = p .point .quiet x refl granted }
+
+  -- after an accepted announcement
+  announced-history : (u i : ℕ) → AnnouncedAt first qs ls u i → announcedIn (historyOf u emptyTable (made first qs (suc i)) .taken) ≡ true
+  announced-history u i a =
+      ap (λ (h : History). announcedIn (h .taken)) (history-next u i) ∙ go (line-of u i)
+    where
+      go : LineOf u i → announcedIn (historyIn u (past u i) (one i) .taken) ≡ true
+      go (begins s m fl l k) =
+          let d = s .asks in
+          let e = announce-asks u i (a .0) in
+          absurd (let z : _≡_ {A = ℕ} 0 1 = cc in let y : ⊥ = omega arith in y)
+      go (steps x e ok l k) =
+          let d = announce-asks u i (a .0) in
+          let same : x ≡ ringRequest ringStep.Announce = cc in
+          ap (λ (l : List asks.Ask). announcedIn (historyIn u (past u i) l .taken)) l
+          ∙ (ap (λ (b : Bool). announcedIn (cond b (record { first = past u i .first; taken = past u i .taken ++ (x ∷ []) }) (past u i) .taken)) (eq-eqb u u refl)
+          ∙ (announced-append (past u i .taken) (x ∷ []) ∙ right-true (announcedIn (past u i .taken)) (ap (λ (z : Request). isAnnounce (kind z) || false) same)))
+      go (passes p) =
+          let d = announce-asks u i (a .0) in
+          let z : ⊥ = omega (arith, sym (p .count) ∙ count-ok u i _ d (a .1) ∙ ap (λ (b : Bool). cond (b && true) 1 0) (eq-eqb u u refl)) in absurd z
+
+  started-next : (u i : ℕ) → startedOf u emptyTable (made first qs i) ≡ true → startedOf u emptyTable (made first qs (suc i)) ≡ true
+  started-next u i e =
+      let l = acceptedOf table emptyTable (made first qs i) in
+      ap (λ (rs : List asks.Ask). startsIn u (acceptedOf table emptyTable rs)) (made-later i (suc i) (omega arith))
+      ∙ (ap (startsIn u) (accepted-append table emptyTable (made first qs i) (later i (suc i)))
+      ∙ (starts-append u l (acc i (suc i)) ∙ left-true (startsIn u (acc i (suc i))) e))
+
+  last :
+      (u i j : ℕ) → i < j → AnnouncedAt first qs ls u i → NoStart first qs u i j
+      → (x : Request) → getD qs j no-step ≡ request (step u x) → LineOk first qs j → ⊥
+  last u i j h a none x e ok =
+      let granted = step-ok u i (ringRequest ringStep.Announce) (announce-asks u i (a .0)) .0 (a .1) in
+      let p = point u (suc i) (started-next u i (accepts-started u i (ringRequest ringStep.Announce) granted)) in
+      let empty : (k : ℕ) → suc i ≤ k → NoStart first qs u (suc i) k → length (stepsIn u (acc (suc i) k)) ≡ 0 = λ k lo s.
+          ap length (p .point .last (announced-history u i a) (later (suc i) k) (no-starts u (suc i) k lo s)) in
+      let now = empty j (omega arith) (λ k lo hi s. none k (omega arith) hi s) in
+      let after = empty (suc j) (omega arith) further in
+      let single = count-ok u j (step u x) e ok ∙ ap (λ (b : Bool). cond (b && true) 1 0) (eq-eqb u u refl) in
+      let z : ⊥ = omega (arith, now, after, single, oks-later u (suc i) j (omega arith), oks-later u (suc i) (suc j) (omega arith)) in z
+    where
+      further : NoStart first qs u (suc i) (suc j)
+      further k lo hi s = by (decLt k j)
+        where
+          by : Dec (k < j) → ⊥
+          by (yes less) = none k (omega arith) less s
+          by (no more) =
+              let at : k ≡ j = omega arith in
+              let d = ap (λ (k : ℕ). getD qs k no-step) (sym at) ∙ s .asks in
+              let z : _≡_ {A = ℕ} 0 1 = cc in let y : ⊥ = omega arith in y
+
+  -- ---- the nodes of each update
+
+  some-node : 0 < n
+  some-node = fits n flags (table-numbers .start emptyTable empty-sound v n flags .0 started .2) .some-node
+
+  begun-fixed : fixed (tableBegun first) ≡ n
+  begun-fixed = table-numbers .fixed-by-start emptyTable v n flags started
+
+  fixed-at : (i : ℕ) → fixed (tableAt first qs i) ≡ n
+  unfolding runOf answerOn
+  fixed-at i =
+      table-kept .fixed-run (tableBegun first) begun-sound (subst (λ (k : ℕ). 0 < k) (sym begun-fixed) some-node) (toTable (said qs i)) ∙ begun-fixed
+
+  nodes : (u i : ℕ) (r : State) → slotAt (tableAt first qs i) u ≡ Started r → r .n ≡ n
+  nodes u i r at = sym (table-numbers .fixed-by-started (tableAt first qs i) (sound-at i) u r at) ∙ fixed-at i
+
+  reachable :
+      (u i : ℕ) (r : State) → slotAt (tableAt first qs i) u ≡ Started r → (h : 0 < r .n) → Reachable h (shown r) (sendsMade r)
+  reachable u i r at h = runs-agree-on .run-is-reachable emptyTable empty-sound u (made first qs i) (standing u i r at) r at h
+
+  -- ---- the countdown
+
+  -- a started update had n nodes at its latest start
+  first-nodes : (u i : ℕ) → (p : FromStart emptyTable u (made first qs i)) → p .r .n ≡ n
+  first-nodes u i p =
+      let s = p .point .s in
+      let kept : s .n ≡ p .r .n = ap (λ (x : State). x .n) (p .point .follows .state) ∙ run-n (run-of ring (p .r) _) in
+      sym kept ∙ nodes u i s (p .point .stands)
+
+  one-of :
+      (u i j K : ℕ) → i ≤ j → Counted (tableAt first qs i) u K (later i j) → (x : Request) → getD qs j no-step ≡ request (step u x)
+      → AcceptsOn (runOf table (tableAt first qs i) (later i j)) u x → TokenMove (kind x) ⊎ Says (getD ls j []) (update u announce)
+  one-of u i j K h d x e a = go (d .then)
+    where
+      go : OneOfTwo (runOf table (tableAt first qs i) (later i j)) u → TokenMove (kind x) ⊎ Says (getD ls j []) (update u announce)
+      go (token-moves y b moves) = inl (moves x a)
+      go (announcement all alone) = inr (announce-says u j x e (ap isAnnounce (alone x a)))
+
+  counts-down : (u i K : ℕ)
+      → ((bs : List asks.Ask) → startedOf u (tableAt first qs i) bs ≡ false → announcedIn (takenOf u (tableAt first qs i) bs) ≡ false → Counted (tableAt first qs i) u K bs)
+      → UpdateCountsDown first qs ls u i K
+  counts-down u i K counted =
+      record {
+        alone = λ j h ns na x e ok. one-of u i j K h (at j h ns na) x e (same j h x e .0 ok);
+        at-most = λ j h ns na. omega (arith, oks-later u i j h, at j h ns na .at-most);
+        exactly = λ j h ns na q.
+            let x = ringRequest ringStep.Announce in
+            let d = at j h ns na .exactly x refl in
+            let w = same j h x (announce-asks u j q) in
+            let k = oks-later u i j h in (
+              λ ok. omega (arith, k, d .0 (w .0 ok)),
+              λ m. w .1 (d .1 (omega (arith, k))),
+            );
+      }
+    where
+      at : (j : ℕ) → i ≤ j → NoStart first qs u i j → NoAnnouncement first qs ls u i j → Counted (tableAt first qs i) u K (later i j)
+      at j h ns na = counted (later i j) (no-starts u i j h ns) (no-announcements u i j h na)
+
+      same :
+          (j : ℕ) → i ≤ j → (x : Request) → getD qs j no-step ≡ request (step u x)
+          → LineOk first qs j ↔ AcceptsOn (runOf table (tableAt first qs i) (later i j)) u x
+      same j h x e =
+          let w = step-ok u j x e in
+          (λ ok. subst (λ (t : Table). AcceptsOn t u x) (table-later i j h) (w .0 ok), λ a. w .1 (subst (λ (t : Table). AcceptsOn t u x) (sym (table-later i j h)) a))
+
+  countdown : (u i : ℕ) → QuietAt first qs u i → OpenAt first qs ls u i → (K : ℕ) × (K ≤ 3 * n - 2) × UpdateCountsDown first qs ls u i K
+  countdown u i q o =
+      let p = point u i (began-started u i (q .r) (q .began)) in
+      let is : q .r ≡ p .r = same-state (sym (q .began) ∙ p .began) in
+      let d = p .point .countdown (subst (λ (r : State). QuietIn r (past u i .taken)) is (q .quiet)) (open-history u i o) in (
+        d .K,
+        subst (λ (k : ℕ). d .K ≤ 3 * k - 2) (first-nodes u i p) (d .bound),
+        counts-down u i (d .K) (d .counted),
+      )
+
+  -- ---- the end lines
+
+  all-said : said qs (length qs) ≡ requestsIn qs
+  all-said = ap requestsIn (take-length qs)
+
+  moves-end : movesAfter noMoves (acceptedOf updates (tableBegun first) (requestsIn qs)) ≡ listTo (movesAt first qs (length qs)) 8
+  unfolding movesIn
+  moves-end =
+      let made-moves = acceptedOf updates (tableBegun first) (requestsIn qs) in
+      ext-getD 0 (movesAfter noMoves made-moves) (listTo (movesAt first qs (length qs)) 8)
+      (moves-length noMoves made-moves ∙ sym (list-length (movesAt first qs (length qs)) 8))
+      (λ u h.
+      let less : u < 8 = omega (arith, moves-length noMoves made-moves) in
+      moves-history u less (historyNext u (begun (slotAt emptyTable u)) first) made-moves noMoves refl
+      (getD-replicate 8 u 0 0 less ∙ sym (ap movesIn (first-taken u)))
+      ∙ (ap (λ (l : List asks.Ask). movesIn (historyIn u (historyNext u (begun (slotAt emptyTable u)) first) l .taken))
+      (sym (update-requests (tableBegun first) begun-sound (requestsIn qs) .1))
+      ∙ (ap (λ (h : History). movesIn (h .taken)) (sym (first-history u (toTable (requestsIn qs))))
+      ∙ (ap (λ (xs : List UpdateAsk). movesIn (historyOf u emptyTable (first ∷ toTable xs) .taken)) (sym all-said)
+      ∙ sym (list-at (movesAt first qs (length qs)) 8 u less)))))
+
+  table-end : runOf updates (tableBegun first) (requestsIn qs) ≡ tableAt first qs (length qs)
+  table-end = ap (runOf updates (tableBegun first)) (sym all-said) ∙ judged (length qs)
+
+  pub update-log :
+      (s : List ℕ)
+      → outputOf s
+      ≡ answerText 1 Accepted ++ (printed (onTable (tableBegun first) noMoves) 2 ls ++ endText (stageAfter (onTable (tableBegun first) noMoves) 2 ls))
+      → UpdateLog s ls n first
+  update-log s o =
+      let t = tableBegun first in
+      record {
+        asks = qs;
+        says = c;
+        output =
+            o
+            ∙ (ap (λ (l : List ℕ). answerText 1 Accepted ++ (l ++ endText (stageAfter (onTable t noMoves) 2 ls)))
+            (lines-printed updates update-answers t noMoves 2 c)
+            ∙ (ap (λ (g : Stage). answerText 1 Accepted ++ (answers updates t qs ++ endText g)) (update-each t noMoves 2 c)
+            ∙ (ap (λ (x : Table). answerText 1 Accepted ++ (answers updates t qs ++ tableEnd x (movesAfter noMoves (acceptedOf updates t (requestsIn qs))))) table-end
+            ∙ ap (λ (ms : List ℕ). answerText 1 Accepted ++ (answers updates t qs ++ tableEnd (tableAt first qs (length qs)) ms)) moves-end)));
+        judged = judged;
+        starts = λ i u m a b e k.
+            ap (answered.verdictOn updates (here i)) e
+            ∙ (ap (λ (x : Table). updateVerdict x u m a b) (judged i) ∙ sym (table-rows (tableAt first qs i) (sound-at i) u m a b k));
+        quiet = quiet;
+        last = last;
+        countdown = countdown;
+        point = point;
+        not-started = not-started;
+        reachable = reachable;
+        nodes = nodes;
+      }

@@ -1,12 +1,15 @@
 -- The lines of updates: what they ask for, what is answered and what they lead to; they are requests to the table. Assumes nothing.
-use Prim.Native.Nat.{_+_, ℕ}
-use lib.ListN.{getD, set}
-use lib.Seq.{set-getD}
+use Prim.Native.Nat.{_+_, _<_, ℕ}
+use borrow.Author.Tests.{eqb-false, eqb-true}
+use lib.Dec.{eqb}
+use lib.ListN.{getD, length, length-set, set}
+use lib.Seq.{getD-set-other, getD-set-same, set-getD}
 use mathlib.Core.Bool.{Bool, _&&_, cond, false, true}
-use mathlib.Core.List.{List, [], _∷_, map}
+use mathlib.Core.List.{List, [], _++_, _∷_, map}
 use mathlib.Core.Logic.{_⊎_, inl, inr}
 use mathlib.Core.Path.{_∙_, _≡_, ap, refl, subst, sym}
 use native.Mathlib.Nat.{add-zero}
+use native.Mathlib.Omega.{arith}
 use Rattle.first_line.proofs.Meaning.{bare-mean, lists-mean}
 use Rattle.first_line.specs.Meaning.{Means}
 use Rattle.first_line.specs.Start.{ringFirst}
@@ -20,13 +23,15 @@ use Rattle.log_rules.specs.Pieces.{OneLine}
 use Rattle.refusal.specs.Table.{firstOf, isAccepted, settle}
 use Rattle.refusal.specs.declared.Verdict.{Verdict}
 use Rattle.refusal.specs.declared.Verdict.the-variants.{Accepted, Refused}
+use Rattle.ring_rules.specs.Start.{firstState}
 use Rattle.ring_runs.specs.Counts.{kind}
 use Rattle.runs.specs.Runs.{Request, acceptedOf, next, runOf}
 use Rattle.table_rules.proofs.Theorems.{table-kept}
 use Rattle.table_rules.specs.Answers.{Start, Step, after, answerOn, nextTable, verdictOn}
 use Rattle.table_rules.specs.Runs.{table}
 use Rattle.table_rules.specs.Soundness.{SoundTable}
-use Rattle.table_rules.specs.Table.{Table}
+use Rattle.table_rules.specs.Table.{Started, Table}
+use Rattle.table_runs.specs.Counts.{History, begun, historyIn, historyNext}
 use Rattle.update_forms.proofs.Exact.{wrapped-exact, wrapped-other}
 use Rattle.update_forms.specs.Read.{wrappedAt}
 use Rattle.update_forms.specs.Wrapped.{Wrapped, wrappedForm}
@@ -34,7 +39,7 @@ use Rattle.log_runs.proofs.First.{table-rows, update-after, update-pass
 use Rattle.log_runs.proofs.Runs.{Answers, Reads}
 use Rattle.log_runs.proofs.Detectors.{move-is, no-move}
 use Rattle.log_runs.specs.First.{flagsTo, knownBy, updateVerdict}
-use Rattle.log_runs.specs.Says.{Ask, Each, cut, line, moveBy, no-line, no-step, other, request, requestsIn, says, stageAfter}
+use Rattle.log_runs.specs.Says.{Ask, Each, cut, line, moveBy, movesIn, no-line, no-step, other, request, requestsIn, says, stageAfter}
 use Rattle.log_runs.specs.Updates.{UpdateAsk, UpdateAsks, askOf, moved, movesAfter, start, step, tableAsk, toTable, updates, verdictOf}
 use Rattle.forms.specs.Read as read
 use Rattle.table_rules.specs.Answers as asks
@@ -175,3 +180,44 @@ update-requests t ok (start u n a b ∷ xs) = go (knownBy n a b) refl (update-re
     go false e same rest =
         same-none t (start u n a b) xs (toTable xs) (updateVerdict t u n a b) refl
         (λ v. false-true (sym e ∙ update-passed t u n a b v .1)) same
+
+-- ---- the token moves of each update are those of its history
+
+pub moves-length : (ms : List ℕ) (acc : List UpdateAsk) → length (movesAfter ms acc) ≡ length ms
+unfolding movesAfter
+moves-length ms [] = refl
+moves-length ms (step u x ∷ acc) = moves-length (addAt ms u (moveBy (kind x))) acc ∙ length-set ms u _
+moves-length ms (start u n a b ∷ acc) = moves-length (set ms u 0) acc ∙ length-set ms u 0
+
+moves-one : (xs : List Request) (x : Request) → movesIn (xs ++ (x ∷ [])) ≡ movesIn xs + moveBy (kind x)
+unfolding movesIn
+moves-one [] x = omega arith
+moves-one (y ∷ xs) x = omega (arith, moves-one xs x)
+
+moved-history :
+    (u : ℕ) → u < 8 → (h : History) (a : UpdateAsk) (ms : List ℕ) → length ms ≡ 8 → getD ms u 0 ≡ movesIn (h .taken)
+    → getD (moved ms a) u 0 ≡ movesIn (historyNext u h (tableAsk a) .taken)
+unfolding movesIn
+moved-history u less h (step w x) ms e m = go (eqb w u) refl
+  where
+    go : (b : Bool) → eqb w u ≡ b
+        → getD (addAt ms w (moveBy (kind x))) u 0 ≡ movesIn (cond b (record { first = h .first; taken = h .taken ++ (x ∷ []) }) h .taken)
+    go true p =
+        let q = eqb-true w u p in
+        ap (λ (k : ℕ). getD (addAt ms k (moveBy (kind x))) u 0) q
+        ∙ (getD-set-same ms u (getD ms u 0 + moveBy (kind x)) 0 (omega (arith, e))
+        ∙ (ap (λ (k : ℕ). k + moveBy (kind x)) m ∙ sym (moves-one (h .taken) x)))
+    go false p = getD-set-other ms w u _ 0 (λ q. eqb-false w u p (sym q)) ∙ m
+moved-history u less h (start w n a b) ms e m = go (eqb w u) refl
+  where
+    go : (t : Bool) → eqb w u ≡ t → getD (set ms w 0) u 0 ≡ movesIn (cond t (begun (Started (firstState n (flagsTo a b n)))) h .taken)
+    go true p = ap (λ (k : ℕ). getD (set ms k 0) u 0) (eqb-true w u p) ∙ getD-set-same ms u 0 0 (omega (arith, e))
+    go false p = getD-set-other ms w u 0 0 (λ q. eqb-false w u p (sym q)) ∙ m
+
+pub moves-history :
+    (u : ℕ) → u < 8 → (h : History) (acc : List UpdateAsk) (ms : List ℕ) → length ms ≡ 8 → getD ms u 0 ≡ movesIn (h .taken)
+    → getD (movesAfter ms acc) u 0 ≡ movesIn (historyIn u h (map tableAsk acc) .taken)
+unfolding movesAfter
+moves-history u less h [] ms e m = m
+moves-history u less h (a ∷ acc) ms e m =
+    moves-history u less (historyNext u h (tableAsk a)) acc (moved ms a) (moves-length ms (a ∷ []) ∙ e) (moved-history u less h a ms e m)

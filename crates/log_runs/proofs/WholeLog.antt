@@ -24,10 +24,12 @@ use Rattle.runs.specs.Runs.{Accepts, Request, acceptedOf, runOf}
 use Rattle.tree_rules.specs.Termination.{Closing}
 use Rattle.tree_runs.specs.WholeRun.{stepsBy}
 use Rattle.log_runs.proofs.Detectors.{ring-answers, ring-reads, ring-steps, tree-answers, tree-reads, tree-steps}
-use Rattle.log_runs.proofs.First.{first-told, ring-accepted, tree-accepted}
+use Rattle.log_runs.proofs.First.{first-told, ring-accepted, tree-accepted, update-accepted}
 use Rattle.log_runs.proofs.Runs.{Left, announce-ok, counts-down, each-asks, lines-printed, none-after, told-printed, unannounced}
 use Rattle.log_runs.proofs.Theorems.{log-runs}
-use Rattle.log_runs.specs.First.{FirstAsks, StartAsk, begun, firstVerdict, flagsTo, no-start, ring-start, tree-start}
+use Rattle.log_runs.proofs.UpdateLog.{update-log}
+use Rattle.log_runs.proofs.Updates.{update-reads}
+use Rattle.log_runs.specs.First.{FirstAsks, StartAsk, begun, firstVerdict, flagsTo, no-start, ring-start, tree-start, update-start}
 use Rattle.log_runs.specs.Says.{Ask, Each, RingAsks, TreeAsks, movesIn, printed, requestsIn, stageAfter}
 use Rattle.log_runs.specs.WholeLog.{LogBy, RingLog, TreeLog, WholeLog}
 use Rattle.log_runs.specs.Answered.{answers, said}
@@ -195,6 +197,9 @@ told-by s l ls o c (ring-start n active black) f Accepted e =
     ring-log n (flagsTo active black n) (ring-accepted n active black e) s ls (accepted s l ls o f e) (w .0) (w .1)
 told-by s l ls o c (tree-start n root) f Accepted e =
     let w = each-asks tree-reads c in tree-log n root (tree-accepted n root e) s ls (accepted s l ls o f e) (w .0) (w .1)
+told-by s l ls o c (update-start u n active black) f Accepted e =
+    let w = each-asks update-reads c in
+    update-log u n (flagsTo active black n) (update-accepted u n active black e) (w .1) s (accepted s l ls o f e)
 told-by s l ls o c no-start f Accepted e = not-both e refl
 
 pub whole-log : WholeLog
