@@ -4,7 +4,7 @@ use borrow.Author.Tests.{le-leb, le-ltb, leb-true, lt-leb, lt-ltb, ltb-false, lt
 use lib.Dec.{leb, ltb}
 use lib.ListN.{List·getD-append, getD, length, length-append, take}
 use lib.Seq.{ext-getD, getD-at, getD-take, length-take-le}
-use mathlib.Core.Bool.{Bool, _&&_, false, not, true}
+use mathlib.Core.Bool.{Bool, false, not, true}
 use mathlib.Core.List.{List, [], _++_, _∷_}
 use mathlib.Core.Logic.{_↔_, inl, inr, _⊎_}
 use mathlib.Core.Path.{_∙_, _≡_, ap, refl, subst, subst⁻¹, sym}

@@ -3,7 +3,7 @@ use Prim.Native.Nat.{_+_, suc, zero, ℕ}
 use borrow.Author.Tests.{leb-true, ltb-false, ltb-true, not-false}
 use lib.Dec.{leb, ltb}
 use lib.ListN.{getD, length, take}
-use mathlib.Core.Bool.{Bool, _&&_, cond, false, true}
+use mathlib.Core.Bool.{_&&_, cond}
 use mathlib.Core.List.{List, [], _++_, _∷_, append-assoc}
 use mathlib.Core.Logic.{_↔_}
 use mathlib.Core.Path.{_∙_, _≡_, ap, refl, subst, sym}
@@ -47,7 +47,7 @@ use Rattle.log_runs.proofs.Updates.{update-each, update-reads, update-r
 use Rattle.log_runs.proofs.Runs.{each-asks, each-once}
 use Rattle.log_runs.proofs.First.{asks-once, first-asks, first-told, opening-once, ring-accepted, tree-accepted, update-accepted}
 use Rattle.log_runs.specs.First.{FirstAsks, StartAsk, no-start}
-use Rattle.log_runs.specs.Says.{Ask, BegunOpen, Each, RingAsks, TreeAsks, cut, line, no-line, other, requestsIn, says, RingSays, TreeSays, moveBy, movesIn, printed, stageAfter}
+use Rattle.log_runs.specs.Says.{Ask, BegunOpen, Each, RingAsks, TreeAsks, cut, line, no-line, other, requestsIn, says, RingSays, TreeSays, movesIn, printed, stageAfter}
 use Rattle.log_runs.specs.Theorems.{LogRuns, Ok, RingCountdown}
 use Rattle.log_runs.specs.Updates.{UpdateAsk, UpdatesSay, movesAfter, updates}
 use Rattle.log_rules.specs.Theorems as lines

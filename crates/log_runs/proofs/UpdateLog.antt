@@ -17,7 +17,6 @@ use Rattle.log_rules.specs.Answers.{Stage, answerText, endText, noMoves, onTabl
 use Rattle.log_rules.specs.Output.{outputOf}
 use Rattle.refusal.proofs.Table.{not-both}
 use Rattle.refusal.specs.Table.{isAccepted, settle}
-use Rattle.refusal.specs.declared.Refusal.{Refusal}
 use Rattle.refusal.specs.declared.Verdict.{Verdict}
 use Rattle.refusal.specs.declared.Verdict.the-variants.{Accepted, Refused}
 use Rattle.ring_rules.specs.Start.{firstState}
@@ -54,6 +53,14 @@ use Rattle.forms.specs.declared.RingStep.the-variants as ringStep
 use Rattle.table_rules.specs.Answers as asks
 use Rattle.update_forms.specs.Wrapped as wrapped
 use Rattle.log_runs.specs.Answered as answered
+
+true-unless : {b : Bool} → (b ≡ false → ⊥) → b ≡ true
+true-unless {b = true} bad = refl
+true-unless {b = false} bad = absurd (bad refl)
+
+false-unless : {b : Bool} → (b ≡ true → ⊥) → b ≡ false
+false-unless {b = true} bad = absurd (bad refl)
+false-unless {b = false} bad = refl
 
 -- ---- lists
 
@@ -291,11 +298,7 @@ module _ (v n : ℕ) (flags : List ℕ) (started : verdictOn emptyTable (Start v
   not-last :
       (u i : ℕ) (x : Request) → getD qs i no-step ≡ request (step u x) → LineOk first qs i → (AnnouncedAt first qs ls u i → ⊥)
       → isAnnounce (kind x) ≡ false
-  not-last u i x e ok bad = go (isAnnounce (kind x)) refl
-    where
-      go : (b : Bool) → isAnnounce (kind x) ≡ b → isAnnounce (kind x) ≡ false
-      go true p = absurd (bad (announce-says u i x e p, ok))
-      go false p = p
+  not-last u i x e ok bad = false-unless (λ p. bad (announce-says u i x e p, ok))
 
   -- ---- what is accepted between two lines
 
@@ -414,27 +417,17 @@ module _ (v n : ℕ) (flags : List ℕ) (started : verdictOn emptyTable (Start v
   not-started u i e = whole-table .not-started emptyTable empty-sound u (empty-slot u) (made first qs i) e .0
 
   standing : (u i : ℕ) (r : State) → slotAt (tableAt first qs i) u ≡ Started r → startedOf u emptyTable (made first qs i) ≡ true
-  standing u i r at = go (split (startedOf u emptyTable (made first qs i)))
-    where
-      go : (startedOf u emptyTable (made first qs i) ≡ true) ⊎ (startedOf u emptyTable (made first qs i) ≡ false) → startedOf u emptyTable (made first qs i) ≡ true
-      go (inl e) = e
-      go (inr e) = absurd (never-started (sym (not-started u i e) ∙ at))
+  standing u i r at = true-unless (λ e. never-started (sym (not-started u i e) ∙ at))
 
-  began-started : (u i : ℕ) (r : State) → historyOf u emptyTable (made first qs i) .first ≡ Started r → startedOf u emptyTable (made first qs i) ≡ true
-  began-started u i r b = go (split (startedOf u emptyTable (made first qs i)))
-    where
-      go : (startedOf u emptyTable (made first qs i) ≡ true) ⊎ (startedOf u emptyTable (made first qs i) ≡ false) → startedOf u emptyTable (made first qs i) ≡ true
-      go (inl e) = e
-      go (inr e) =
-          let h = history-on u (acceptedOf table emptyTable (made first qs i)) (begun (slotAt emptyTable u)) e in
-          absurd (never-started (sym (empty-slot u) ∙ (sym (ap (λ (h : History). h .first) h) ∙ b)))
+  began-started : (u i : ℕ) (r : State) → past u i .first ≡ Started r → startedOf u emptyTable (made first qs i) ≡ true
+  began-started u i r b =
+      true-unless
+      (λ e.
+      let h = history-on u (acceptedOf table emptyTable (made first qs i)) (begun (slotAt emptyTable u)) e in
+      never-started (sym (empty-slot u) ∙ (sym (ap (λ (h : History). h .first) h) ∙ b)))
 
   accepts-started : (u i : ℕ) (x : Request) → AcceptsOn (tableAt first qs i) u x → startedOf u emptyTable (made first qs i) ≡ true
-  accepts-started u i x a = go (split (startedOf u emptyTable (made first qs i)))
-    where
-      go : (startedOf u emptyTable (made first qs i) ≡ true) ⊎ (startedOf u emptyTable (made first qs i) ≡ false) → startedOf u emptyTable (made first qs i) ≡ true
-      go (inl e) = e
-      go (inr e) = absurd (not-both a (unknown-step (tableAt first qs i) (sound-at i) u x (not-started u i e)))
+  accepts-started u i x a = true-unless (λ e. not-both a (unknown-step (tableAt first qs i) (sound-at i) u x (not-started u i e)))
 
   point : (u i : ℕ) → startedOf u emptyTable (made first qs i) ≡ true → FromStart emptyTable u (made first qs i)
   point u i e = whole-table .from-start emptyTable empty-sound u (made first qs i) e

@@ -18,9 +18,9 @@ use Rattle.forms.specs.Read.{Read}
 use Rattle.forms.specs.declared.RingStep.{RingStep}
 use Rattle.laws.proofs.Tests.{false-true}
 use Rattle.log_rules.proofs.Theorems.{lines-say, says-first, says-itself}
-use Rattle.log_rules.specs.Answers.{Stage, Told, addAt, answerText, isMove, lineTold, onTable, ringRequest, updateAsk, updateStartTold, updateTable}
+use Rattle.log_rules.specs.Answers.{Stage, Told, addAt, answerText, isMove, lineTold, onTable, ringRequest, updateAsk, updateStartTold}
 use Rattle.log_rules.specs.Pieces.{OneLine}
-use Rattle.refusal.specs.Table.{firstOf, isAccepted, settle}
+use Rattle.refusal.specs.Table.{isAccepted, settle}
 use Rattle.refusal.specs.declared.Verdict.{Verdict}
 use Rattle.refusal.specs.declared.Verdict.the-variants.{Accepted, Refused}
 use Rattle.ring_rules.specs.Start.{firstState}
@@ -39,7 +39,7 @@ use Rattle.log_runs.proofs.First.{table-rows, update-after, update-pass
 use Rattle.log_runs.proofs.Runs.{Answers, Reads}
 use Rattle.log_runs.proofs.Detectors.{move-is, no-move}
 use Rattle.log_runs.specs.First.{flagsTo, knownBy, updateVerdict}
-use Rattle.log_runs.specs.Says.{Ask, Each, cut, line, moveBy, movesIn, no-line, no-step, other, request, requestsIn, says, stageAfter}
+use Rattle.log_runs.specs.Says.{Ask, Each, cut, line, moveBy, movesIn, no-line, other, requestsIn, says, stageAfter}
 use Rattle.log_runs.specs.Updates.{UpdateAsk, UpdateAsks, askOf, moved, movesAfter, start, step, tableAsk, toTable, updates, verdictOf}
 use Rattle.forms.specs.Read as read
 use Rattle.table_rules.specs.Answers as asks

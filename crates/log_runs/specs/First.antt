@@ -1,8 +1,8 @@
 -- Document 01, "The log program": what the first line of a log asks for, and how it is answered.
-use Prim.Native.Nat.{suc, zero, ℕ}
+use Prim.Native.Nat.{ℕ}
 use lib.Dec.{leb, ltb}
 use mathlib.Core.Bool.{Bool, _&&_, not, true}
-use mathlib.Core.List.{List, [], _++_, _∷_}
+use mathlib.Core.List.{List, [], _∷_}
 use mathlib.Core.Logic.{_⊎_, inl, inr}
 use Rattle.first_line.specs.Meaning.{flagByte, named}
 use Rattle.first_line.specs.Start.{Start, bare, lists, startForm, tree}

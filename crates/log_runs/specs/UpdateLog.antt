@@ -22,7 +22,7 @@ use Rattle.table_runs.specs.Counts.{QuietIn, historyOf, startedOf}
 use Rattle.table_runs.specs.WholeRun.{FromStart}
 use Rattle.log_runs.specs.Answered.{OkAt, answers, said, verdictAt}
 use Rattle.log_runs.specs.First.{flagsTo, knownBy}
-use Rattle.log_runs.specs.Says.{Ask, Each, listTo, movesIn, no-step, request, requestsIn}
+use Rattle.log_runs.specs.Says.{Ask, Each, listTo, movesIn, no-step, request}
 use Rattle.log_runs.specs.Updates.{UpdateAsk, UpdateAsks, oksOf, start, step, toTable, updates}
 
 -- the table that the first line begins, which made the request `first`

@@ -13,7 +13,7 @@ use Rattle.runs.specs.Runs.{Machine, Request}
 use Rattle.table_rules.specs.Answers.{Start, Step, after, verdictOn}
 use Rattle.table_rules.specs.Table.{Table}
 use Rattle.update_forms.specs.Wrapped.{Wrapped, wrappedForm}
-use Rattle.log_runs.specs.Answered.{said, verdictAt}
+use Rattle.log_runs.specs.Answered.{verdictAt}
 use Rattle.log_runs.specs.First.{flagsTo, knownBy, updateVerdict}
 use Rattle.log_runs.specs.Says.{Ask, Asks, Each, moveBy, no-step, request, requestsIn}
 use Rattle.table_rules.specs.Answers as table

@@ -1,8 +1,7 @@
 -- THE WHOLE LOG, for every list of bytes: what is printed for each of its lines and at its end, and demand 3 of that very log.
 -- The proof is in proofs/WholeLog.antt. Lines are numbered as in their answers: the lines after the first are lines 2 + i.
-use Prim.Native.Nat.{_*_, _+_, _-_, _<_, _≤_, suc, zero, ℕ}
-use lib.ListN.{getD, length, take}
-use mathlib.Core.Bool.{cond}
+use Prim.Native.Nat.{_*_, _+_, _-_, _<_, _≤_, ℕ}
+use lib.ListN.{getD}
 use mathlib.Core.List.{List, [], _++_, _∷_}
 use mathlib.Core.Logic.{_↔_, _⊎_}
 use mathlib.Core.Path.{_≡_}
@@ -11,8 +10,6 @@ use Rattle.forms.specs.Form.{Says, announce}
 use Rattle.log_rules.specs.Answers.{answerText, ringEnd, treeEnd}
 use Rattle.log_rules.specs.Lines.{linesOf}
 use Rattle.log_rules.specs.Output.{outputOf}
-use Rattle.refusal.specs.Table.{isAccepted}
-use Rattle.refusal.specs.declared.Refusal.the-variants.{NotAForm}
 use Rattle.refusal.specs.declared.Verdict.{Verdict}
 use Rattle.refusal.specs.declared.Verdict.the-variants.{Accepted, Refused}
 use Rattle.ring_rules.specs.Theorems.{TokenMove}
