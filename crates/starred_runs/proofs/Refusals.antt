@@ -27,6 +27,7 @@ use Rattle.starred_runs.specs.Case.{allPass, passes}
 use Rattle.starred_runs.specs.TableLimits.{limits}
 use Rattle.starred_runs.specs.TableRefusals.{order, outside}
 use Rattle.starred_runs.specs.Table.{refusals}
+use Rattle.update_forms.specs.Read.{closedRead, innerOf, insideAt, openedOf, spaceAfter, updateAt, wrappedAt}
 use Rattle.decimal.specs.Number as number
 use Rattle.first_line.specs.Read as first
 use Rattle.ring_rules.specs.Answers as ring
@@ -41,5 +42,5 @@ use Rattle.tree_rules.specs.Start as treeStart
 use Rattle.tree_runs.specs.Requests as treeRequests
 
 pub refusals-pass : allPass refusals ≡ true
-unfolding refusals order outside limits passes allPass ringRequests.numbers treeRequests.numbers isBlack blackened whitened _⊖_ isPositive isZero isSame sumTo ringRules.conclusive ringSound.shapeTest ringSound.rangeTest flowTest sumTest passiveAbove whiteTo gatheredTest safraTest unusedTest ringSound.closedTest ringSound.soundTest mayProbe mayPass ring.verdictOf mayMove moveOf driveFrom driveOf activeFrom colorFrom flagsTest ringStart.firstState ringStart.blank ringStart.startOf ringStart.startVerdict countTo messagesFrom children climb treeRules.conclusive treeSound.shapeTest treeSound.rangeTest engagerTest chainTest balanceTest restTest pairTest placeTest limitTest treeSound.closedTest treeSound.soundTest mayLeave tree.verdictOf treeStart.firstState treeStart.blank treeStart.startOf treeStart.startVerdict decimal digits childrenText nodeText writeVerdict writtenOf lineTold split linesTold restOf ring.answerOf tree.answerOf inTransit blackNodes acksTotal starts scanOf checked number.numberAt keptOf spacedOf closedOf oneOf secondOf twoOf madeOf readBy endsLine lined ringAt treeAt entryOf entriesOf first.activeRead first.blackRead listsAt ringAfter rootAfter treeAfter startAt firstAt
+unfolding refusals order outside limits passes allPass ringRequests.numbers treeRequests.numbers isBlack blackened whitened _⊖_ isPositive isZero isSame sumTo ringRules.conclusive ringSound.shapeTest ringSound.rangeTest flowTest sumTest passiveAbove whiteTo gatheredTest safraTest unusedTest ringSound.closedTest ringSound.soundTest mayProbe mayPass ring.verdictOf mayMove moveOf driveFrom driveOf activeFrom colorFrom flagsTest ringStart.firstState ringStart.blank ringStart.startOf ringStart.startVerdict countTo messagesFrom children climb treeRules.conclusive treeSound.shapeTest treeSound.rangeTest engagerTest chainTest balanceTest restTest pairTest placeTest limitTest treeSound.closedTest treeSound.soundTest mayLeave tree.verdictOf treeStart.firstState treeStart.blank treeStart.startOf treeStart.startVerdict decimal digits childrenText nodeText writeVerdict writtenOf lineTold split linesTold restOf ring.answerOf tree.answerOf inTransit blackNodes acksTotal starts scanOf checked number.numberAt keptOf spacedOf closedOf oneOf secondOf twoOf madeOf readBy endsLine lined ringAt treeAt entryOf entriesOf first.activeRead first.blackRead listsAt ringAfter rootAfter treeAfter startAt firstAt openedOf spaceAfter innerOf insideAt closedRead updateAt wrappedAt
 refusals-pass = refl
