@@ -62,7 +62,8 @@ same-told t ms k (step u f) e e′ = refl
 same-told t ms k (bare u n) e e′ = refl
 same-told t ms k (lists u n active black) e e′ = refl
 
-pub table-in-place : (t : Table) (ms : List ℕ) (k : ℕ) (s : List ℕ) (at : ℕ) → tableTold t ms k (wrappedAt s at) ≡ lineTold (onTable t ms) k (line (drop at s))
+pub table-in-place :
+    (t : Table) (ms : List ℕ) (k : ℕ) (s : List ℕ) (at : ℕ) → tableTold t ms k (wrappedAt s at) ≡ lineTold (onTable t ms) k (line (drop at s))
 unfolding lineTold
 table-in-place t ms k s at = go (wrappedAt s at) refl
   where

@@ -39,12 +39,14 @@ examples =
     -- start that is refused leaves it; 9 and 8 are no updates; update 0 is announced; a bare start
     ∷ record {
       log =
-          bytes "(update 2 (ring 2 (active) (black 1)))\n(update 0 (ring 3))\n(update 0 (ring 2))\n(update 2 (probe))\n(probe)\n(update 0 (probe))\n(update 1 (probe))\n(update 2 (pass 1))\n"
-          ++ bytes "(update 0 (pass 1))\n(update 0 (announce))\n(update 2 (ring 2 (active 0) (black)))\n(update 2 (send 0 1))\n(update 2 (ring 2 (active 2) (black)))\n"
-          ++ bytes "(update 9 (ring 3))\n(update 8 (probe))\n(update 0 (probe))\n(ring 2)\n";
+          bytes "(update 2 (ring 2 (active) (black 1)))\n(update 0 (ring 3))\n(update 0 (ring 2))\n(update 2 (probe))\n(probe)\n(update 0 (probe))\n"
+          ++ bytes "(update 1 (probe))\n(update 2 (pass 1))\n(update 0 (pass 1))\n(update 0 (announce))\n(update 2 (ring 2 (active 0) (black)))\n(update 2 (send 0 1))\n"
+          ++ bytes "(update 2 (ring 2 (active 2) (black)))\n(update 9 (ring 3))\n(update 8 (probe))\n(update 0 (probe))\n(ring 2)\n";
       output =
-          bytes "(ok 1)\n(no 2 1)\n(ok 3)\n(ok 4)\n(no 5 10)\n(ok 6)\n(no 7 13)\n(ok 8)\n(ok 9)\n(ok 10)\n(ok 11)\n(ok 12)\n(no 13 6)\n(no 14 13)\n(no 15 13)\n(no 16 4)\n(no 17 10)\n"
-          ++ bytes "(update 0 (end (boards 2) (holder 0) (moves 2) (flight 0) (black 0)))\n(update 2 (end (boards 2) (holder 0) (moves 0) (flight 1) (black 0)))\n";
+          bytes "(ok 1)\n(no 2 1)\n(ok 3)\n(ok 4)\n(no 5 10)\n(ok 6)\n(no 7 13)\n(ok 8)\n(ok 9)\n(ok 10)\n(ok 11)\n(ok 12)\n"
+          ++ bytes "(no 13 6)\n(no 14 13)\n(no 15 13)\n(no 16 4)\n(no 17 10)\n"
+          ++ bytes "(update 0 (end (boards 2) (holder 0) (moves 2) (flight 0) (black 0)))\n"
+          ++ bytes "(update 2 (end (boards 2) (holder 0) (moves 0) (flight 1) (black 0)))\n";
     }
     -- wrapped lines in a bare log
     ∷ record {

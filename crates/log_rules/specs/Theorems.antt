@@ -39,7 +39,8 @@ pub record LinesSay : Type 0 where
       (t : tree.State) (k : ℕ) (l : List ℕ) → OneLine l → ((f : TreeStep) → Says l (treeForm f) → ⊥)
       → lineTold (onTree t) k l ≡ notTold (onTree t) k
   pub update-line :
-      (t : Table) (ms : List ℕ) (k : ℕ) (l : List ℕ) (w : Wrapped) → Says l (wrappedForm w) → lineTold (onTable t ms) k l ≡ tableTold t ms k (read w 0)
+      (t : Table) (ms : List ℕ) (k : ℕ) (l : List ℕ) (w : Wrapped) → Says l (wrappedForm w)
+      → lineTold (onTable t ms) k l ≡ tableTold t ms k (read w 0)
   pub update-other :
       (t : Table) (ms : List ℕ) (k : ℕ) (l : List ℕ) → OneLine l → ((w : Wrapped) → Says l (wrappedForm w) → ⊥)
       → lineTold (onTable t ms) k l ≡ notTold (onTable t ms) k

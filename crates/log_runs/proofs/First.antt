@@ -129,7 +129,7 @@ list-at f (suc n) i h = go (list-at f n i) (decLt i n)
 
 flags-length : (active black : List ℕ) (n : ℕ) → length (flagsTo active black n) ≡ n
 unfolding flagsTo
-flags-length a b n = list-length (λ i. flagByte (named a i) (named b i)) n
+flags-length a b n = list-length _ n
 
 flags-at : (active black : List ℕ) (n i : ℕ) → i < n → getD (flagsTo active black n) i 0 ≡ flagByte (named active i) (named black i)
 unfolding flagsTo
@@ -190,9 +190,12 @@ all-rows false true p q e = refl
 all-rows false false p q e = e
 
 pub table-rows :
-    (t : Table) → SoundTable t → (u n : ℕ) (a b : List ℕ) → knownBy n a b ≡ true → verdictOn t (table.Start u n (flagsTo a b n)) ≡ updateVerdict t u n a b
+    (t : Table) → SoundTable t → (u n : ℕ) (a b : List ℕ) → knownBy n a b ≡ true
+    → verdictOn t (table.Start u n (flagsTo a b n)) ≡ updateVerdict t u n a b
 unfolding verdictOn
-table-rows t ok u n a b k = rw (table-tested .tested t ok, k) (all-rows (not (ltb u 8)) (otherNodes t n) (ringStart.startTable n (flagsTo a b n)) (startRows (inRange 96 n) true) (last-rows n a b))
+table-rows t ok u n a b k =
+    rw (table-tested .tested t ok, k)
+    (all-rows (not (ltb u 8)) (otherNodes t n) (ringStart.startTable n (flagsTo a b n)) (startRows (inRange 96 n) true) (last-rows n a b))
 
 -- an accepted one names nodes that there are
 pub update-passed : (t : Table) (u n : ℕ) (a b : List ℕ) → updateVerdict t u n a b ≡ Accepted → (n ≤ 96) × (knownBy n a b ≡ true)
@@ -286,7 +289,9 @@ module _ (t : Table) (u n top e : ℕ) (flags a b : List ℕ) (m : Means a b (ri
 
   pub update-rows : firstOf (updateTable t u seenFirst) ≡ updateVerdict t u n a b
   update-rows =
-      ap (λ (k : Bool). firstOf ((not (ltb u 8) ⟶ UnknownUpdate) ∷ (otherNodes t n ⟶ NodeCount) ∷ (not (inRange 96 n) ⟶ NodeCount) ∷ (k ⟶ UnknownNode) ∷ []))
+      ap
+      (λ (k : Bool).
+      firstOf ((not (ltb u 8) ⟶ UnknownUpdate) ∷ (otherNodes t n ⟶ NodeCount) ∷ (not (inRange 96 n) ⟶ NodeCount) ∷ (k ⟶ UnknownNode) ∷ []))
       (top-known n a b m)
 
   pub update-after : updateVerdict t u n a b ≡ Accepted → after t (updateAsk u seenFirst) ≡ after t (table.Start u n (flagsTo a b n))
@@ -297,7 +302,8 @@ update-told :
     → updateOpened u (ringFirst n flags top e)
     ≡ openedBy (firstVerdict (StartAsk.update-start u n a b)) (begun (StartAsk.update-start u n a b))
 update-told u n top e flags a b m =
-    ap (λ (v : Verdict). openedBy v (onTable (after emptyTable (updateAsk u (ringFirst n flags top e))) noMoves)) (update-rows emptyTable u n top e flags a b m)
+    ap (λ (v : Verdict). openedBy v (onTable (after emptyTable (updateAsk u (ringFirst n flags top e))) noMoves))
+    (update-rows emptyTable u n top e flags a b m)
     ∙ opened-same (firstVerdict (StartAsk.update-start u n a b))
     (λ v.
     ap (λ (t : Table). onTable t noMoves)

@@ -286,7 +286,8 @@ asks (lines.last u h) = (no-start, cut u)
 asks (lines.another {l} o c) = first-asks l o
 
 -- the table that an accepted start begins
-opened-sound : (u : ℕ) (g : First) → Flags (g .flags) → firstOf (updateTable emptyTable u g) ≡ Accepted → SoundTable (after emptyTable (updateAsk u g))
+opened-sound :
+    (u : ℕ) (g : First) → Flags (g .flags) → firstOf (updateTable emptyTable u g) ≡ Accepted → SoundTable (after emptyTable (updateAsk u g))
 opened-sound u g flags e = go (none-holds (updateTable emptyTable u g) e)
   where
     go : NoneHolds (updateTable emptyTable u g) → SoundTable (after emptyTable (updateAsk u g))
@@ -318,14 +319,17 @@ first l = go (seenOf (firstAt l 0) .kind)
     update-open : (u : ℕ) (g : First) → Flags (g .flags) → BegunOpen (updateOpened u g .stage)
     update-open u g flags = by (firstOf (updateTable emptyTable u g)) refl
       where
-        by : (v : Verdict) → firstOf (updateTable emptyTable u g) ≡ v → BegunOpen (openedBy v (onTable (after emptyTable (updateAsk u g)) noMoves) .stage)
+        by :
+            (v : Verdict) → firstOf (updateTable emptyTable u g) ≡ v
+            → BegunOpen (openedBy v (onTable (after emptyTable (updateAsk u g)) noMoves) .stage)
         by Accepted e = (opened-sound u g flags e, refl)
         by (Refused x) e = tt
 
     update : (w : Read Wrapped) → wrappedAt l 0 ≡ w → BegunOpen (updateFirst w .stage)
     update (read.read (wrapped.step u h) e) p = tt
     update (read.read (wrapped.bare u n) e) p = update-open u (seen (start.bare n) e) zero-flags
-    update (read.read (wrapped.lists u n a b) e) p = update-open u (seen (start.lists n a b) e) (subst (λ (w : Read Wrapped). Flags (wrappedSeen w .first .flags)) p (wrapped-flags l 0))
+    update (read.read (wrapped.lists u n a b) e) p =
+        update-open u (seen (start.lists n a b) e) (subst (λ (w : Read Wrapped). Flags (wrappedSeen w .first .flags)) p (wrapped-flags l 0))
     update read.other p = tt
 
     go : (k : FirstKind) → BegunOpen (freshTold k f (wrappedAt l 0) .stage)

@@ -127,7 +127,9 @@ announce-only (cut u) e y = absurd (let z : _≡_ {A = ℕ} 0 1 = cc in let w : 
 
 -- ---- the lines of a log whose first line started an update
 
-module _ (v n : ℕ) (flags : List ℕ) (started : verdictOn emptyTable (Start v n flags) ≡ Accepted) {ls : List (List ℕ)} {qs : List (Ask UpdateAsk)} (c : Each UpdateAsks ls qs) where
+module _
+    (v n : ℕ) (flags : List ℕ) (started : verdictOn emptyTable (Start v n flags) ≡ Accepted) {ls : List (List ℕ)} {qs : List (Ask UpdateAsk)}
+    (c : Each UpdateAsks ls qs) where
   abbrev first : asks.Ask
   first = Start v n flags
 
@@ -361,12 +363,17 @@ module _ (v n : ℕ) (flags : List ℕ) (started : verdictOn emptyTable (Start v
 
   -- ---- histories
 
-  first-history : (u : ℕ) (rs : List asks.Ask) → historyOf u emptyTable (first ∷ rs) ≡ historyIn u (historyNext u (begun (slotAt emptyTable u)) first) (acceptedOf table (tableBegun first) rs)
+  abbrev begunAt : ℕ → History
+  begunAt u = historyNext u (begun (slotAt emptyTable u)) first
+
+  first-history :
+      (u : ℕ) (rs : List asks.Ask) → historyOf u emptyTable (first ∷ rs) ≡ historyIn u (begunAt u) (acceptedOf table (tableBegun first) rs)
   unfolding acceptedOf answerOn
   first-history u rs =
-      ap (λ (r : Verdict). historyIn u (begun (slotAt emptyTable u)) (settle r (first ∷ acceptedOf table (tableBegun first) rs) (acceptedOf table (tableBegun first) rs))) started
+      let later = acceptedOf table (tableBegun first) rs in
+      ap (λ (r : Verdict). historyIn u (begun (slotAt emptyTable u)) (settle r (first ∷ later) later)) started
 
-  first-taken : (u : ℕ) → historyNext u (begun (slotAt emptyTable u)) first .taken ≡ []
+  first-taken : (u : ℕ) → begunAt u .taken ≡ []
   first-taken u = go (eqb v u)
     where
       go : (b : Bool) → cond b (begun (Started (firstState n flags))) (begun (slotAt emptyTable u)) .taken ≡ []
@@ -375,6 +382,12 @@ module _ (v n : ℕ) (flags : List ℕ) (started : verdictOn emptyTable (Start v
 
   abbrev past : ℕ → ℕ → History
   past u i = historyOf u emptyTable (made first qs i)
+
+  -- an accepted step of u is the last of its history
+  step-history : (u i : ℕ) (x : Request) → one i ≡ Step u x ∷ [] → historyIn u (past u i) (one i) .taken ≡ past u i .taken ++ (x ∷ [])
+  step-history u i x l =
+      let more : History = record { first = past u i .first; taken = past u i .taken ++ (x ∷ []) } in
+      ap (λ (l : List asks.Ask). historyIn u (past u i) l .taken) l ∙ ap (λ (b : Bool). cond b more (past u i) .taken) (eq-eqb u u refl)
 
   -- an update that is not announced, but where a start follows, has no announcement in its history
   open-earlier : (u i : ℕ) → (StartedAt first qs u i → ⊥) → OpenAt first qs ls u (suc i) → OpenAt first qs ls u i
@@ -402,10 +415,10 @@ module _ (v n : ℕ) (flags : List ℕ) (started : verdictOn emptyTable (Start v
       go (steps x e ok l k) ih =
           let bad : StartedAt first qs u i → ⊥ = λ s. let d = s .asks in let z : _≡_ {A = ℕ} 0 1 = cc in let y : ⊥ = omega arith in y in
           let last : AnnouncedAt first qs ls u i → ⊥ = λ a. let w = o i (omega arith) a in let y : ⊥ = omega (arith, w .1, w .2) in y in
-          ap (λ (l : List asks.Ask). announcedIn (historyIn u (past u i) l .taken)) l
-          ∙ (ap (λ (b : Bool). announcedIn (cond b (record { first = past u i .first; taken = past u i .taken ++ (x ∷ []) }) (past u i) .taken)) (eq-eqb u u refl)
+          ap announcedIn (step-history u i x l)
           ∙ (announced-append (past u i .taken) (x ∷ [])
-          ∙ (ap (λ (b : Bool). b || (isAnnounce (kind x) || false)) (ih (open-earlier u i bad o)) ∙ ap (λ (b : Bool). b || false) (not-last u i x e ok last))))
+          ∙ (ap (λ (b : Bool). b || (isAnnounce (kind x) || false)) (ih (open-earlier u i bad o))
+          ∙ ap (λ (b : Bool). b || false) (not-last u i x e ok last)))
       go (passes p) ih = ap (λ (h : History). announcedIn (h .taken)) (p .history (past u i)) ∙ ih (open-earlier u i (p .not-started) o)
 
   -- ---- demand 3 of update u
@@ -459,9 +472,9 @@ module _ (v n : ℕ) (flags : List ℕ) (started : verdictOn emptyTable (Start v
       go (steps x e ok l k) =
           let d = announce-asks u i (a .0) in
           let same : x ≡ ringRequest ringStep.Announce = cc in
-          ap (λ (l : List asks.Ask). announcedIn (historyIn u (past u i) l .taken)) l
-          ∙ (ap (λ (b : Bool). announcedIn (cond b (record { first = past u i .first; taken = past u i .taken ++ (x ∷ []) }) (past u i) .taken)) (eq-eqb u u refl)
-          ∙ (announced-append (past u i .taken) (x ∷ []) ∙ right-true (announcedIn (past u i .taken)) (ap (λ (z : Request). isAnnounce (kind z) || false) same)))
+          ap announcedIn (step-history u i x l)
+          ∙ (announced-append (past u i .taken) (x ∷ [])
+          ∙ right-true (announcedIn (past u i .taken)) (ap (λ (z : Request). isAnnounce (kind z) || false) same))
       go (passes p) =
           let d = announce-asks u i (a .0) in
           let z : ⊥ = omega (arith, sym (p .count) ∙ count-ok u i _ d (a .1) ∙ ap (λ (b : Bool). cond (b && true) 1 0) (eq-eqb u u refl)) in absurd z
@@ -535,7 +548,8 @@ module _ (v n : ℕ) (flags : List ℕ) (started : verdictOn emptyTable (Start v
       go (announcement all alone) = inr (announce-says u j x e (ap isAnnounce (alone x a)))
 
   counts-down : (u i K : ℕ)
-      → ((bs : List asks.Ask) → startedOf u (tableAt first qs i) bs ≡ false → announcedIn (takenOf u (tableAt first qs i) bs) ≡ false → Counted (tableAt first qs i) u K bs)
+      → ((bs : List asks.Ask) → startedOf u (tableAt first qs i) bs ≡ false → announcedIn (takenOf u (tableAt first qs i) bs) ≡ false
+      → Counted (tableAt first qs i) u K bs)
       → UpdateCountsDown first qs ls u i K
   counts-down u i K counted =
       record {
@@ -558,8 +572,10 @@ module _ (v n : ℕ) (flags : List ℕ) (started : verdictOn emptyTable (Start v
           (j : ℕ) → i ≤ j → (x : Request) → getD qs j no-step ≡ request (step u x)
           → LineOk first qs j ↔ AcceptsOn (runOf table (tableAt first qs i) (later i j)) u x
       same j h x e =
-          let w = step-ok u j x e in
-          (λ ok. subst (λ (t : Table). AcceptsOn t u x) (table-later i j h) (w .0 ok), λ a. w .1 (subst (λ (t : Table). AcceptsOn t u x) (sym (table-later i j h)) a))
+          let w = step-ok u j x e in (
+            λ ok. subst (λ (t : Table). AcceptsOn t u x) (table-later i j h) (w .0 ok),
+            λ a. w .1 (subst (λ (t : Table). AcceptsOn t u x) (sym (table-later i j h)) a),
+          )
 
   countdown : (u i : ℕ) → QuietAt first qs u i → OpenAt first qs ls u i → (K : ℕ) × (K ≤ 3 * n - 2) × UpdateCountsDown first qs ls u i K
   countdown u i q o =
@@ -584,9 +600,9 @@ module _ (v n : ℕ) (flags : List ℕ) (started : verdictOn emptyTable (Start v
       (moves-length noMoves made-moves ∙ sym (list-length (movesAt first qs (length qs)) 8))
       (λ u h.
       let less : u < 8 = omega (arith, moves-length noMoves made-moves) in
-      moves-history u less (historyNext u (begun (slotAt emptyTable u)) first) made-moves noMoves refl
+      moves-history u less (begunAt u) made-moves noMoves refl
       (getD-replicate 8 u 0 0 less ∙ sym (ap movesIn (first-taken u)))
-      ∙ (ap (λ (l : List asks.Ask). movesIn (historyIn u (historyNext u (begun (slotAt emptyTable u)) first) l .taken))
+      ∙ (ap (λ (l : List asks.Ask). movesIn (historyIn u (begunAt u) l .taken))
       (sym (update-requests (tableBegun first) begun-sound (requestsIn qs) .1))
       ∙ (ap (λ (h : History). movesIn (h .taken)) (sym (first-history u (toTable (requestsIn qs))))
       ∙ (ap (λ (xs : List UpdateAsk). movesIn (historyOf u emptyTable (first ∷ toTable xs) .taken)) (sym all-said)
@@ -602,6 +618,7 @@ module _ (v n : ℕ) (flags : List ℕ) (started : verdictOn emptyTable (Start v
       → UpdateLog s ls n first
   update-log s o =
       let t = tableBegun first in
+      let moves = movesAfter noMoves (acceptedOf updates t (requestsIn qs)) in
       record {
         asks = qs;
         says = c;
@@ -610,7 +627,7 @@ module _ (v n : ℕ) (flags : List ℕ) (started : verdictOn emptyTable (Start v
             ∙ (ap (λ (l : List ℕ). answerText 1 Accepted ++ (l ++ endText (stageAfter (onTable t noMoves) 2 ls)))
             (lines-printed updates update-answers t noMoves 2 c)
             ∙ (ap (λ (g : Stage). answerText 1 Accepted ++ (answers updates t qs ++ endText g)) (update-each t noMoves 2 c)
-            ∙ (ap (λ (x : Table). answerText 1 Accepted ++ (answers updates t qs ++ tableEnd x (movesAfter noMoves (acceptedOf updates t (requestsIn qs))))) table-end
+            ∙ (ap (λ (x : Table). answerText 1 Accepted ++ (answers updates t qs ++ tableEnd x moves)) table-end
             ∙ ap (λ (ms : List ℕ). answerText 1 Accepted ++ (answers updates t qs ++ tableEnd (tableAt first qs (length qs)) ms)) moves-end)));
         judged = judged;
         starts = λ i u m a b e k.

@@ -111,7 +111,9 @@ update-answers t ms k l a (cut u) =
 
 -- ---- all of them
 
-moves-on : (ms : List ℕ) (a : UpdateAsk) (acc : List UpdateAsk) (v : Verdict) → movesAfter (settle v (moved ms a) ms) acc ≡ movesAfter ms (settle v (a ∷ acc) acc)
+moves-on :
+    (ms : List ℕ) (a : UpdateAsk) (acc : List UpdateAsk) (v : Verdict)
+    → movesAfter (settle v (moved ms a) ms) acc ≡ movesAfter ms (settle v (a ∷ acc) acc)
 unfolding movesAfter
 moves-on ms a acc Accepted = refl
 moves-on ms a acc (Refused e) = refl
@@ -167,7 +169,8 @@ same-none t a xs rs (Refused r) e bad w = rw e w
 pub update-requests : (t : Table) → SoundTable t → (xs : List UpdateAsk) → Same t xs (toTable xs)
 unfolding runOf acceptedOf answerOn
 update-requests t ok [] = (refl, refl)
-update-requests t ok (step u x ∷ xs) = same-next t (step u x) xs (toTable xs) refl (update-requests (nextTable t (Step u x)) (table-kept .any t (Step u x) ok) xs)
+update-requests t ok (step u x ∷ xs) =
+    same-next t (step u x) xs (toTable xs) refl (update-requests (nextTable t (Step u x)) (table-kept .any t (Step u x) ok) xs)
 update-requests t ok (start u n a b ∷ xs) = go (knownBy n a b) refl (update-requests t ok xs) (λ t′ ok′. update-requests t′ ok′ xs)
   where
     go :
@@ -176,7 +179,8 @@ update-requests t ok (start u n a b ∷ xs) = go (knownBy n a b) refl (update-re
     go true e same rest =
         let v = table-rows t ok u n a b e in
         same-next t (start u n a b) xs (toTable xs) v
-        (rest (next updates t (start u n a b)) (subst (λ (v : Verdict). SoundTable (settle v (after t (Start u n (flagsTo a b n))) t)) v (table-kept .any t (Start u n (flagsTo a b n)) ok)))
+        (rest (next updates t (start u n a b))
+        (subst (λ (v : Verdict). SoundTable (settle v (after t (Start u n (flagsTo a b n))) t)) v (table-kept .any t (Start u n (flagsTo a b n)) ok)))
     go false e same rest =
         same-none t (start u n a b) xs (toTable xs) (updateVerdict t u n a b) refl
         (λ v. false-true (sym e ∙ update-passed t u n a b v .1)) same
