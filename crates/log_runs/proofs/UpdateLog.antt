@@ -12,7 +12,7 @@ use native.Mathlib.Nat.{add-suc, add-zero}
 use native.Mathlib.Decide.{decLt}
 use native.Mathlib.Omega.{arith}
 use Rattle.forms.specs.Form.{Form, Says, announce, update}
-use Rattle.laws.proofs.Tests.{false-true, left-true, right-true, split}
+use Rattle.laws.proofs.Tests.{false-true, left-true, right-true}
 use Rattle.log_rules.specs.Answers.{Stage, answerText, endText, noMoves, onTable, ringRequest, tableEnd}
 use Rattle.log_rules.specs.Output.{outputOf}
 use Rattle.refusal.proofs.Table.{not-both}
