@@ -22,7 +22,7 @@ use Rattle.ring_rules.specs.Rules.{Announce, Idle, Kind, Pass, Probe, Send, Tak
 use Rattle.ring_rules.specs.Start.{firstState, startOf}
 use Rattle.ring_rules.specs.State.{State}
 use Rattle.ring_runs.proofs.Agreed.{other-kind}
-use Rattle.ring_runs.proofs.Agreement.{runs-agree, starts-agree, steps-agree}
+use Rattle.ring_runs.proofs.Agreement as rings
 use Rattle.ring_runs.proofs.Steps.{detected-of}
 use Rattle.ring_runs.proofs.Trace.{run-n, run-sent}
 use Rattle.ring_runs.specs.Agreement.{Reachable, Started as InitBy, sendsMade, shown, shownAfter as shownAfterRing}
@@ -51,16 +51,16 @@ use Rattle.table_runs.specs.Counts.{AcceptsOn, heardOf, startedOf}
 init-shown : (t : Table) (u N : ℕ) (flags : List ℕ) → verdictOn t (Start u N flags) ≡ Accepted → InitBy flags (varsOf N (firstState N flags))
 init-shown t u N flags e =
     let b = start-begins t u N flags e in
-    subst (λ (r : State). InitBy flags (varsOf N r)) (start-answered .first N flags b) (starts-agree N .start-is-init flags b)
+    subst (λ (r : State). InitBy flags (varsOf N r)) (start-answered .first N flags b) (rings.starts-agree N .start-is-init flags b)
 
-pub starts-agree-on : (t : Table) → StartsAgree t
-starts-agree-on t =
+pub starts-agree : (t : Table) → StartsAgree t
+starts-agree t =
     record {
       stands = λ u N flags e. ap (λ (x : Table). slotAt x u) (accepted-table t (Start u N flags) e) ∙ start-stands t u N flags e;
       start-is-init = init-shown t;
       init-is-start =
           λ ok u N hu h hi f s i.
-          let w = starts-agree N .init-is-start h hi s i in
+          let w = rings.starts-agree N .init-is-start h hi s i in
           record {
             flags = w .flags;
             accepted = table-numbers .start t ok u N (w .flags) .1 (hu, f, w .accepted);
@@ -89,7 +89,7 @@ module _ (t : Table) (ok : SoundTable t) (u : ℕ) (r : State) (at : slotAt t u 
   unfolding answerOf
   accepted-action x a =
       subst (λ (s : Vars (r .n)). Action (someNode t ok u r at) (shown r) s (kind x) (x .i) (x .j)) (sym (ring-shown x a))
-      (steps-agree r (ok .each u r at) .accepted-is-action (x .kind) (x .i) (x .j) (ring-accepts t ok u r at x a))
+      (rings.steps-agree r (ok .each u r at) .accepted-is-action (x .kind) (x .i) (x .j) (ring-accepts t ok u r at x a))
 
   module _ (running : r .closed ≡ false) where
     action-accepted :
@@ -97,7 +97,7 @@ module _ (t : Table) (ok : SoundTable t) (u : ℕ) (r : State) (at : slotAt t u 
         → AcceptsOn t u x × (shownAfter t u r x ≡ s)
     unfolding answerOf
     action-accepted x s a room =
-        let p = steps-agree r (ok .each u r at) .action-is-accepted running (x .kind) (x .i) (x .j) s a
+        let p = rings.steps-agree r (ok .each u r at) .action-is-accepted running (x .kind) (x .i) (x .j) s a
         (λ e. let m = among t ok u r at in let h = room e in omega arith) in
         let b = table-accepts t ok u r at x (room-spent t (kind x) room) (p .0) in
         (b, ring-shown x b ∙ p .1)
@@ -127,7 +127,7 @@ module _ (t : Table) (ok : SoundTable t) (u : ℕ) (r : State) (at : slotAt t u 
   next-answered : (s : Vars (r .n)) → Next (someNode t ok u r at) (shown r) s → NextAnswered t ok u r at s
   next-answered s a =
       let sound = ok .each u r at in
-      ⊎-elim (λ c. absurd (steps-agree r sound .detected-is-last (detected-of r sound (conclusive-true r (sound .announced c))) s a))
+      ⊎-elim (λ c. absurd (rings.steps-agree r sound .detected-is-last (detected-of r sound (conclusive-true r (sound .announced c))) s a))
       (λ o. open-answered o s a)
       (split (r .closed))
 
@@ -145,9 +145,9 @@ module _ (t : Table) (ok : SoundTable t) (u : ℕ) (r : State) (at : slotAt t u 
       go Accepted = same-n r (kind x) (x .i) (x .j)
       go (Refused f) = refl
 
-  pub steps-agree-on : StepsAgree t ok u r at
+  pub steps-agree : StepsAgree t ok u r at
   unfolding answerOn answerOf
-  steps-agree-on =
+  steps-agree =
       record {
         stands = ring-next t ok u r at;
         nodes-kept = kept-n;
@@ -158,12 +158,12 @@ module _ (t : Table) (ok : SoundTable t) (u : ℕ) (r : State) (at : slotAt t u 
             subst
             (λ (s : Vars (r .n)). Next (someNode t ok u r at) (shown r) s ⊎ ((kind x ≡ Announce) × terminationDetected (someNode t ok u r at) (shown r) × (s ≡ shown r)))
             (sym (ring-shown x a))
-            (steps-agree r (ok .each u r at) .accepted-is-next (x .kind) (x .i) (x .j) (ring-accepts t ok u r at x a));
+            (rings.steps-agree r (ok .each u r at) .accepted-is-next (x .kind) (x .i) (x .j) (ring-accepts t ok u r at x a));
         refused-is-same = refused-same;
         next-is-answered = next-answered;
         announce-is-detected =
             λ running.
-            let w = steps-agree r (ok .each u r at) .announce-is-detected running 0 0 in
+            let w = rings.steps-agree r (ok .each u r at) .announce-is-detected running 0 0 in
             (λ a. w .0 (ring-accepts t ok u r at announce a), λ d. announce-accepts t ok u r at announce refl (w .1 d));
       }
 
@@ -188,7 +188,7 @@ module _ (t : Table) (ok : SoundTable t) (u : ℕ) (ls : List Ask) (e : startedO
       λ h.
       subst (λ (s : State). Reachable h (varsOf (w .n) (runOf ring s xs)) (sendsMade (runOf ring s xs)))
       (start-answered .first (w .n) (w .flags) (w .accepted))
-      (runs-agree h .run-is-reachable (w .flags) (w .accepted) xs) in
+      (rings.runs-agree h .run-is-reachable (w .flags) (w .accepted) xs) in
       let size : w .n ≡ r .n = sym (ap (λ (s : State). s .n) (sym same) ∙ run-n (run-of ring first xs) ∙ first-n (w .n) (w .flags)) in
       subst (λ (n : ℕ). (h : 0 < n) → Reachable h (varsOf n r) (sendsMade r)) size
       (subst (λ (s : State). (h : 0 < w .n) → Reachable h (varsOf (w .n) s) (sendsMade s)) same reach)
@@ -261,7 +261,7 @@ module _ (t : Table) (ok : SoundTable t) (u : ℕ) (hu : u < 8) {N : ℕ} (h : 0
   unfolding acceptedOf runOf answerOn
   reachable-run s m b room =
       let own = own-sends t ok u in
-      let w = runs-agree h .reachable-is-run hi s m b (omega arith) in
+      let w = rings.runs-agree h .reachable-is-run hi s m b (omega arith) in
       let ask = Start u N (w .flags) in
       let a = table-numbers .start t ok u N (w .flags) .1 (hu, f, w .start) in
       let first = start-answered .first N (w .flags) (w .start) in
@@ -282,8 +282,8 @@ module _ (t : Table) (ok : SoundTable t) (u : ℕ) (hu : u < 8) {N : ℕ} (h : 0
         there = w .there;
       }
 
-pub runs-agree-on : RunsAgree
-runs-agree-on =
+pub runs-agree : RunsAgree
+runs-agree =
     record {
       run-is-reachable = run-reachable;
       reachable-is-run = reachable-run;
