@@ -9,21 +9,25 @@ use std::collections::BTreeSet;
 
 /// Files of `specs/` that need not be believed: contracts between functions of the code, which the contracts of the public operations do not
 /// mention.
-const INNER: [(&str, &str); 7] = [
+const INNER: [(&str, &str); 10] = [
     ("log_end", "Ends"),
     ("log_lines", "Lines"),
     ("log_ring", "Run"),
+    ("log_table", "Run"),
     ("log_tree", "Run"),
+    ("table_columns", "Columns"),
+    ("table_start", "Fixed"),
     ("ring_check", "Told"),
     ("tree_check", "Told"),
     ("ring_driver", "Ran"),
 ];
 
-/// Crates whose code need not be believed: it is called by the public operations, and proved; two are test programs.
-const INNER_CODE: [&str; 17] = [
+/// Crates whose code need not be believed: it is called by the public operations, and proved; three are test programs.
+const INNER_CODE: [&str; 22] = [
     "log_end",
     "log_lines",
     "log_ring",
+    "log_table",
     "log_text",
     "log_tree",
     "ring_calls",
@@ -33,6 +37,10 @@ const INNER_CODE: [&str; 17] = [
     "ring_start",
     "ring_steps",
     "ring_token",
+    "table_calls",
+    "table_columns",
+    "table_start",
+    "table_steps",
     "tree_acks",
     "tree_calls",
     "tree_forms",

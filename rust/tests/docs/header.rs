@@ -87,6 +87,7 @@ fn proved() -> BTreeMap<String, u64> {
     let mut proved: BTreeMap<String, u64> = [
         ("RING_NODES", nodes),
         ("RING_COLOR_BYTES", nodes / 8),
+        ("UPDATES", constant("refusal", "UPDATES")),
         ("TREE_NODES", constant("refusal", "TREE_NODES")),
         ("TREE_NONE", constant("tree_rules", "NO_NODE")),
         ("TREE_TEXT_BYTES", text_bytes()),
@@ -117,7 +118,7 @@ fn proved() -> BTreeMap<String, u64> {
 #[test]
 fn the_constants_are_the_proved_ones() {
     let proved = proved();
-    assert_eq!(proved.len(), 32, "constants");
+    assert_eq!(proved.len(), 33, "constants");
     assert_eq!(told(&read("c/muzserlik.h")), proved);
 }
 

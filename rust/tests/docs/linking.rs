@@ -30,7 +30,8 @@ fn declared(header: &str) -> BTreeSet<String> {
     let constants = told(header).into_keys();
     let mut found: BTreeSet<String> = constants.map(|name| format!("MUZSERLIK_{name}")).collect();
     for line in without_comments(header).lines() {
-        let functions = ["uint8_t ", "static inline int "].map(|start| (start, '('));
+        let functions =
+            ["uint8_t ", "static inline int ", "static inline void "].map(|start| (start, '('));
         let types = ["struct ", "enum "].map(|start| (start, ' '));
         for (start, end) in functions.into_iter().chain(types) {
             let name = line
@@ -114,11 +115,17 @@ fn calls_told(page: &str) -> Vec<(String, Vec<usize>)> {
 /// The answers that rust/calls asks for, each of which it has to meet.
 fn calls_met() -> Vec<(String, Vec<usize>)> {
     let steps = [&[0, 3], &answers::OF_SOUND[..]].concat();
+    let table_steps = [&[0, 3], &answers::OF_TABLE_STEP[..]].concat();
+    let mut table_starts = [&[3], &answers::TABLE_START[..]].concat();
+    table_starts.sort_unstable();
     [
         ("ring_start", &answers::RING_START[..]),
         ("ring_step", &steps),
         ("ring_drive", &answers::RING_DRIVE),
         ("ring_is_sound", &answers::IS_SOUND),
+        ("table_start", &table_starts),
+        ("table_step", &table_steps),
+        ("table_is_sound", &answers::IS_SOUND),
         ("tree_start", &answers::TREE_START),
         ("tree_step", &steps),
         ("tree_is_sound", &answers::IS_SOUND),
@@ -247,8 +254,8 @@ fn another_answer_of_a_call_is_found() {
     assert!(!told("0, 1").contains(start));
     assert!(!told("0 to 3").contains(start));
     assert_eq!(
-        unknown_answers(&told("0, 12 to 14, 103"), &header()),
-        [13, 14, 103]
+        unknown_answers(&told("0, 13 to 15, 103"), &header()),
+        [14, 15, 103]
     );
 }
 

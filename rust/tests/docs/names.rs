@@ -1,6 +1,6 @@
 //! Every name that a page gives is declared: `name`, `Record.part`, `.part` of a record named before it in the same row or paragraph,
 //! `Type::method`, `crate::function`, or a must-fail edit of the crate that is named just before it; where a place stands beside it, in that
-//! place; in a column of the ring or of the tree, not by the other detector's crates. Every path and file is there.
+//! place; in a column of the ring or of the tree, not by the other detector's crates, nor by the table's. Every path and file is there.
 
 use crate::declared::{declared, File, Name};
 use crate::edits::is_edit;
@@ -63,13 +63,16 @@ impl Side {
         }
     }
 
-    /// Not a file of the other detector's.
+    /// Not a file of the other detector's, nor of the table's.
     fn has(self, file: &File) -> bool {
-        let is_of = |other: &str| file.owner.split('_').next() == Some(other);
+        let is_of = |others: [&str; 2]| {
+            let owner = file.owner.split('_').next().unwrap_or_default();
+            others.contains(&owner)
+        };
         match self {
             Side::Both => true,
-            Side::Ring => !is_of("tree"),
-            Side::Tree => !is_of("ring"),
+            Side::Ring => !is_of(["tree", "table"]),
+            Side::Tree => !is_of(["ring", "table"]),
         }
     }
 }
@@ -287,4 +290,6 @@ fn a_column_is_its_own_detectors() {
     assert_eq!(undeclared(&page), Vec::<String>::new());
     let page = format!("{head}| a | `Counted`, `.closing-alone` | `Counted.moves-alone` |\n");
     assert_eq!(undeclared(&page), [".closing-alone", "Counted.moves-alone"]);
+    let page = format!("{head}| a | `FollowsRing` | `NonInterference.same` |\n");
+    assert_eq!(undeclared(&page), ["FollowsRing", "NonInterference.same"]);
 }
