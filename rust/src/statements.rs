@@ -1,12 +1,13 @@
 //! Which files of the crates' `specs/` hold statements; the others hold definitions.
 
-pub const STATEMENT_FILES: [&str; 8] = [
+pub const STATEMENT_FILES: [&str; 9] = [
     "Agreement",
     "Cases",
     "Exact",
     "Examples",
     "Listing",
     "Theorems",
+    "UpdateLog",
     "WholeLog",
     "WholeRun",
 ];

@@ -9,11 +9,12 @@ use std::collections::BTreeSet;
 
 /// Files of `specs/` that need not be believed: contracts between functions of the code, which the contracts of the public operations do not
 /// mention.
-const INNER: [(&str, &str); 10] = [
+const INNER: [(&str, &str); 11] = [
     ("log_end", "Ends"),
     ("log_lines", "Lines"),
     ("log_ring", "Run"),
     ("log_table", "Run"),
+    ("log_table_end", "Slots"),
     ("log_tree", "Run"),
     ("table_columns", "Columns"),
     ("table_start", "Fixed"),
@@ -23,11 +24,12 @@ const INNER: [(&str, &str); 10] = [
 ];
 
 /// Crates whose code need not be believed: it is called by the public operations, and proved; three are test programs.
-const INNER_CODE: [&str; 22] = [
+const INNER_CODE: [&str; 23] = [
     "log_end",
     "log_lines",
     "log_ring",
     "log_table",
+    "log_table_end",
     "log_text",
     "log_tree",
     "ring_calls",
