@@ -35,7 +35,7 @@ use Rattle.table_rules.specs.Answers.{Start, Step, answerOn, verdictOn}
 use Rattle.table_rules.specs.Runs.{table}
 use Rattle.table_rules.specs.Soundness.{SoundTable}
 use Rattle.table_rules.specs.Table.{NotStarted, Started, Table, emptyTable, fixed, slotAt}
-use Rattle.table_runs.proofs.Agreement.{runs-agree-on}
+use Rattle.table_runs.proofs.Agreement.{runs-agree}
 use Rattle.table_runs.proofs.Updates.{unknown-step}
 use Rattle.table_runs.proofs.WholeRun.{history-on, whole-table}
 use Rattle.table_runs.specs.Counts.{AcceptsOn, History, QuietIn, begun, historyIn, historyNext, historyOf, startedOf, startsIn, stepsIn, takenOf}
@@ -527,7 +527,7 @@ module _
 
   reachable :
       (u i : ℕ) (r : State) → slotAt (tableAt first qs i) u ≡ Started r → (h : 0 < r .n) → Reachable h (shown r) (sendsMade r)
-  reachable u i r at h = runs-agree-on .run-is-reachable emptyTable empty-sound u (made first qs i) (standing u i r at) r at h
+  reachable u i r at h = runs-agree .run-is-reachable emptyTable empty-sound u (made first qs i) (standing u i r at) r at h
 
   -- ---- the countdown
 
