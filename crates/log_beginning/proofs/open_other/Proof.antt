@@ -7,11 +7,6 @@ use Rattle.log_beginning.proofs.Laws.{none-seen, other-kind, start-seen
 use borrow.Author.Needs.{needs}
 use Rattle.log_beginning.proofs.open_other.Statement.{statement}
 use Rattle.log_beginning.proofs.open_other.Tie as tie
-use Rattle.log_beginning.proofs.open_other.Reads as reads
-use Rattle.log_beginning.proofs.open_other.Lts as lts
-use Rattle.log_beginning.proofs.open_update.Reads as open-update-reads
-use Rattle.log_beginning.proofs.refuse.Reads as refuse-reads
-use Rattle.update_forms.proofs.update_start.Reads as update-start-reads
 
 update-start-requires : tie.Need-update-start-requires
 update-start-requires c κs = search needs

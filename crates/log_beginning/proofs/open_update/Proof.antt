@@ -7,14 +7,6 @@ use Rattle.log_beginning.proofs.Laws.{many-nodes-of, no-nodes-of, no-up
 use borrow.Author.Needs.{needs}
 use Rattle.log_beginning.proofs.open_update.Statement.{statement}
 use Rattle.log_beginning.proofs.open_update.Tie as tie
-use Rattle.log_beginning.proofs.open_update.Reads as reads
-use Rattle.log_beginning.proofs.open_update.Lts as lts
-use Rattle.log_beginning.proofs.blank_ring.Reads as blank-ring-reads
-use Rattle.log_beginning.proofs.blank_tree.Reads as blank-tree-reads
-use Rattle.log_beginning.proofs.refuse.Reads as refuse-reads
-use Rattle.log_text.proofs.put_answer.Reads as put-answer-reads
-use Rattle.table.proofs.Table.empty.Reads as empty-reads
-use Rattle.table.proofs.Table.start.Reads as start-reads
 
 refuse-requires : tie.Need-refuse-requires
 refuse-requires c κs = search needs

@@ -9,11 +9,6 @@ use Rattle.log_end.proofs.Items.{item-short}
 use borrow.Author.Needs.{needs}
 use Rattle.log_end.proofs.put_update_end.Statement.{statement}
 use Rattle.log_end.proofs.put_update_end.Tie as tie
-use Rattle.log_end.proofs.put_update_end.Reads as reads
-use Rattle.log_end.proofs.put_update_end.Lts as lts
-use Rattle.decimal.proofs.put_word.Reads as put-word-reads
-use Rattle.log_end.proofs.put_ring.Reads as put-ring-reads
-use Rattle.log_text.proofs.put_item.Reads as put-item-reads
 
 slice-aggregate-put-item : tie.Need-slice-aggregate-put-item
 slice-aggregate-put-item c = search needs

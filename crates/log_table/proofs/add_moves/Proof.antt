@@ -3,8 +3,6 @@ use Rattle.log_table.proofs.Laws.{added-out}
 use borrow.Author.Needs.{needs}
 use Rattle.log_table.proofs.add_moves.Statement.{statement}
 use Rattle.log_table.proofs.add_moves.Tie as tie
-use Rattle.log_table.proofs.add_moves.Reads as reads
-use Rattle.log_table.proofs.add_moves.Lts as lts
 
 mul-moves : tie.Need-mul-moves
 mul-moves c = search needs

@@ -6,10 +6,6 @@ use Rattle.log_table.proofs.Laws.{barred-many, barred-node, barred-none
 use borrow.Author.Needs.{needs}
 use Rattle.log_table.proofs.barred.Statement.{statement}
 use Rattle.log_table.proofs.barred.Tie as tie
-use Rattle.log_table.proofs.barred.Reads as reads
-use Rattle.log_table.proofs.barred.Lts as lts
-use Rattle.table_start.proofs.fixed_of.Reads as fixed-of-reads
-use Rattle.table_start.proofs.is_other.Reads as is-other-reads
 
 returns : tie.Need-returns
 returns c = rw (le-ltb (c .before .args .u) 8 (c .if1 .taken))

@@ -4,8 +4,6 @@ use Rattle.log_table.proofs.Laws.{cleared}
 use borrow.Author.Needs.{needs}
 use Rattle.log_table.proofs.clear_moves.Statement.{statement}
 use Rattle.log_table.proofs.clear_moves.Tie as tie
-use Rattle.log_table.proofs.clear_moves.Reads as reads
-use Rattle.log_table.proofs.clear_moves.Lts as lts
 
 enum-told : tie.Need-enum-told
 enum-told c = search needs

@@ -6,9 +6,6 @@ use Rattle.refusal.specs.declared.Verdict.the-variants.{Refused}
 use borrow.Author.Needs.{needs}
 use Rattle.log_table.proofs.formless_line.Statement.{statement}
 use Rattle.log_table.proofs.formless_line.Tie as tie
-use Rattle.log_table.proofs.formless_line.Reads as reads
-use Rattle.log_table.proofs.formless_line.Lts as lts
-use Rattle.log_text.proofs.put_answer.Reads as put-answer-reads
 
 add-lines : tie.Need-add-lines
 add-lines c = search needs

@@ -11,13 +11,6 @@ use Rattle.log_table.proofs.Laws.{answered-went, formless-answered, non
 use borrow.Author.Needs.{needs}
 use Rattle.log_table.proofs.other_line.Statement.{statement}
 use Rattle.log_table.proofs.other_line.Tie as tie
-use Rattle.log_table.proofs.other_line.Reads as reads
-use Rattle.log_table.proofs.other_line.Lts as lts
-use Rattle.log_lines.proofs.line_end.Reads as line-end-reads
-use Rattle.log_table.proofs.formless_line.Reads as formless-line-reads
-use Rattle.log_table.proofs.is_ring.Reads as is-ring-reads
-use Rattle.log_table.proofs.start_line.Reads as start-line-reads
-use Rattle.update_forms.proofs.update_start.Reads as update-start-reads
 
 update-start-requires : tie.Need-update-start-requires
 update-start-requires c κs = search needs

@@ -11,9 +11,6 @@ use Rattle.log_table.proofs.Laws.{run-fits, run-none, run-then}
 use Rattle.log_table.specs.Run.{TableWent}
 use Rattle.log_table.proofs.run_lines.Statement.{statement}
 use Rattle.log_table.proofs.run_lines.Tie as tie
-use Rattle.log_table.proofs.run_lines.Reads as reads
-use Rattle.log_table.proofs.run_lines.Lts as lts
-use Rattle.log_table.proofs.turn.Reads as turn-reads
 
 abbrev Inv-loop : tie.InvT-loop
 Inv-loop n₀ pos₀ q₀ black₀ closed₀ active₀ color₀ sent₀ received₀ pending₀ moves₀ piece out₀ r₀ n pos q black closed active color sent received pending moves out r =

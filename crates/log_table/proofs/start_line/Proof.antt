@@ -6,11 +6,6 @@ use Rattle.log_table.proofs.Laws.{start-answered}
 use borrow.Author.Needs.{needs}
 use Rattle.log_table.proofs.start_line.Statement.{statement}
 use Rattle.log_table.proofs.start_line.Tie as tie
-use Rattle.log_table.proofs.start_line.Reads as reads
-use Rattle.log_table.proofs.start_line.Lts as lts
-use Rattle.log_table.proofs.clear_moves.Reads as clear-moves-reads
-use Rattle.log_table.proofs.start_update.Reads as start-update-reads
-use Rattle.log_text.proofs.put_answer.Reads as put-answer-reads
 
 start-update-requires : tie.Need-start-update-requires
 start-update-requires c κs = search needs

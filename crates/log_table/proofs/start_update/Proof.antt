@@ -10,10 +10,6 @@ use Rattle.log_table.specs.Run.{barredTable}
 use borrow.Author.Needs.{needs}
 use Rattle.log_table.proofs.start_update.Statement.{statement}
 use Rattle.log_table.proofs.start_update.Tie as tie
-use Rattle.log_table.proofs.start_update.Reads as reads
-use Rattle.log_table.proofs.start_update.Lts as lts
-use Rattle.log_table.proofs.barred.Reads as barred-reads
-use Rattle.table_start.proofs.start.Reads as start-reads
 
 barred-requires : tie.Need-barred-requires
 barred-requires c κs = search needs

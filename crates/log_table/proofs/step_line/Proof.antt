@@ -6,13 +6,6 @@ use Rattle.log_table.proofs.Laws.{step-answered}
 use borrow.Author.Needs.{needs}
 use Rattle.log_table.proofs.step_line.Statement.{statement}
 use Rattle.log_table.proofs.step_line.Tie as tie
-use Rattle.log_table.proofs.step_line.Reads as reads
-use Rattle.log_table.proofs.step_line.Lts as lts
-use Rattle.log_ring.proofs.moved.Reads as moved-reads
-use Rattle.log_ring.proofs.request_of.Reads as request-of-reads
-use Rattle.log_table.proofs.add_moves.Reads as add-moves-reads
-use Rattle.log_text.proofs.put_answer.Reads as put-answer-reads
-use Rattle.table_steps.proofs.step.Reads as step-reads
 
 request-of-requires : tie.Need-request-of-requires
 request-of-requires c κs = search needs

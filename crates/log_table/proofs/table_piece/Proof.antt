@@ -4,12 +4,6 @@ use Rattle.log_table.proofs.Laws.{fed-by}
 use borrow.Author.Needs.{needs}
 use Rattle.log_table.proofs.table_piece.Statement.{statement}
 use Rattle.log_table.proofs.table_piece.Tie as tie
-use Rattle.log_table.proofs.table_piece.Reads as reads
-use Rattle.log_table.proofs.table_piece.Lts as lts
-use Rattle.log_table.proofs.run_lines.Reads as run-lines-reads
-use Rattle.table_columns.proofs.count_sends.Reads as count-sends-reads
-use Rattle.table_columns.proofs.gather.Reads as gather-reads
-use Rattle.table_columns.proofs.scatter.Reads as scatter-reads
 
 count-sends-requires : tie.Need-count-sends-requires
 count-sends-requires c κs = search needs

@@ -7,11 +7,6 @@ use Rattle.log_table.proofs.Laws.{answered-went, step-said}
 use borrow.Author.Needs.{needs}
 use Rattle.log_table.proofs.turn.Statement.{statement}
 use Rattle.log_table.proofs.turn.Tie as tie
-use Rattle.log_table.proofs.turn.Reads as reads
-use Rattle.log_table.proofs.turn.Lts as lts
-use Rattle.log_table.proofs.other_line.Reads as other-line-reads
-use Rattle.log_table.proofs.step_line.Reads as step-line-reads
-use Rattle.update_forms.proofs.update_step.Reads as update-step-reads
 
 update-step-requires : tie.Need-update-step-requires
 update-step-requires c κs = search needs
