@@ -493,7 +493,7 @@ module _
       let granted = step-ok u i (ringRequest ringStep.Announce) (announce-asks u i (a .0)) .0 (a .1) in
       let p = point u (suc i) (started-next u i (accepts-started u i (ringRequest ringStep.Announce) granted)) in
       let empty : (k : ℕ) → suc i ≤ k → NoStart first qs u (suc i) k → length (stepsIn u (acc (suc i) k)) ≡ 0 = λ k lo s.
-          ap length (p .point .last (announced-history u i a) (later (suc i) k) (no-starts u (suc i) k lo s)) in
+      ap length (p .point .last (announced-history u i a) (later (suc i) k) (no-starts u (suc i) k lo s)) in
       let now = empty j (omega arith) (λ k lo hi s. none k (omega arith) hi s) in
       let after = empty (suc j) (omega arith) further in
       let single = count-ok u j (step u x) e ok ∙ ap (λ (b : Bool). cond (b && true) 1 0) (eq-eqb u u refl) in

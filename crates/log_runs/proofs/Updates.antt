@@ -147,11 +147,10 @@ unfolding runOf acceptedOf
 same-next t a xs rs e w =
     let b = tableAsk a in
     let v = verdictOf t a in
-    let t′ = next updates t a in
-    (
+    let t′ = next updates t a in (
       w .0 ∙ ap (λ (u : Verdict). runOf table (settle u (after t b) t) rs) (sym e),
       ap (λ (u : Verdict). settle u (b ∷ acceptedOf table (settle u (after t b) t) rs) (acceptedOf table (settle u (after t b) t) rs)) e
-      ∙ (ap (λ (acc : List asks.Ask). settle v (b ∷ acc) acc) (w .1) ∙ go v (acceptedOf updates t′ xs)),
+          ∙ (ap (λ (acc : List asks.Ask). settle v (b ∷ acc) acc) (w .1) ∙ go v (acceptedOf updates t′ xs)),
     )
   where
     go : (v : Verdict) (acc : List UpdateAsk) → settle v (tableAsk a ∷ map tableAsk acc) (map tableAsk acc) ≡ map tableAsk (settle v (a ∷ acc) acc)
