@@ -21,7 +21,7 @@ use Rattle.refusal.specs.declared.Verdict.{Verdict}
 use Rattle.refusal.specs.declared.Verdict.the-variants.{Refused}
 use Rattle.ring.specs.View.{state}
 use Rattle.ring_rules.proofs.Theorems.{sound-kept}
-use Rattle.ring_rules.specs.Answers.{Answer, answerOf, stepOf}
+use Rattle.ring_rules.specs.Answers.{Answer, stepOf}
 use Rattle.ring_rules.specs.Rules.{kindOf}
 use Rattle.ring_rules.specs.Soundness.{Sound}
 use Rattle.ring_check.specs.Told.{answer}
@@ -65,27 +65,22 @@ uncounted true = refl
 uncounted false = refl
 
 -- a step that is carried out
-pub step-answered : (r t : RingRun) (s s′ : rules.State) (f : RingStep) (end : ℕ) (out out′ : List ℕ) (v : Verdict) (kind i j n : ℕ)
-    → Sound s → r .moves ≤ r .lines → answer v s′ ≡ answerOf s (kindOf kind) i j
-    → (kind ≡ ringRequest f .kind) × (i ≡ ringRequest f .i) × (j ≡ ringRequest f .j)
+pub step-answered : (r t : RingRun) (s s′ : rules.State) (f : RingStep) (end : ℕ) (out out′ : List ℕ) (v : Verdict) (n : ℕ)
+    → Sound s → r .moves ≤ r .lines → answer v s′ ≡ stepOf s (ringRequest f .kind) (ringRequest f .i) (ringRequest f .j)
     → (n ≡ cond (isMove f && isAccepted v) 1 0) × (n ≤ 1)
     → t .moves ≡ r .moves + n → t .lines ≡ r .lines + 1 → t .next ≡ end
     → Wrote out (r .at) (answerText (r .lines + 1) v) (t .at) out′
     → RingLineAnswered r t s s′ (ringLine.Step f end) end out out′
-step-answered r t s s′ f end out out′ v kind i j n sound few same asked count moves lines past wrote =
+step-answered r t s s′ f end out out′ v n sound few same count moves lines past wrote =
     let x = ringRequest f in
-    let p : answer v s′ ≡ stepOf s (x .kind) (x .i) (x .j) =
-    same
-    ∙ (ap (λ (y : ℕ). stepOf s y i j) (asked .0)
-    ∙ (ap (λ (y : ℕ). stepOf s (x .kind) y j) (asked .1) ∙ ap (λ (y : ℕ). stepOf s (x .kind) (x .i) y) (asked .2))) in
     record {
       stage =
           ap (onRing s′) (moves ∙ ap (λ (y : ℕ). r .moves + y) (count .0))
-          ∙ ap (λ (a : Answer). onRing (a .state) (r .moves + cond (isMove f && isAccepted (a .verdict)) 1 0)) p;
-      wrote = subst (λ (a : Answer). Wrote out (r .at) (answerText (r .lines + 1) (a .verdict)) (t .at) out′) p wrote;
+          ∙ ap (λ (a : Answer). onRing (a .state) (r .moves + cond (isMove f && isAccepted (a .verdict)) 1 0)) same;
+      wrote = subst (λ (a : Answer). Wrote out (r .at) (answerText (r .lines + 1) (a .verdict)) (t .at) out′) same wrote;
       line = lines;
       past = past;
-      sound = subst (λ (a : Answer). Sound (a .state)) (sym same) (sound-kept .any s (kindOf kind) i j sound);
+      sound = subst (λ (a : Answer). Sound (a .state)) (sym same) (sound-kept .any s (kindOf (x .kind)) (x .i) (x .j) sound);
       few = omega (arith, count .1);
     }
 

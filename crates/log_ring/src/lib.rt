@@ -12,14 +12,25 @@ use ring::Ring;
 use ring::gathered;
 use ring::rest_of;
 use ring_check::Rest;
+use ring_check::Told;
+use ring_check::refused;
 use ring_forms::ring_step;
+use ring_messages::idle;
+use ring_messages::send;
+use ring_messages::take;
+use ring_token::announce;
+use ring_token::pass;
+use ring_token::probe;
 ghost use mathlib.Core.Path.{_≡_};
 ghost use mathlib.Core.Bool.{cond, _&&_};
 ghost use Prim.Native.Nat.{_+_, _≤_, _<_};
 ghost use lib.ListN.{length};
 ghost use Rattle.refusal.specs.Table.{isAccepted};
 ghost use Rattle.log_rules.specs.Answers.{answerBytes, answerText, ringRequest, isMove};
+ghost use Rattle.ring_check.specs.Told.{answer};
 ghost use Rattle.ring_check.specs.Whole.{whole};
+ghost use Rattle.ring_rules.specs.Answers.{stepOf};
+ghost use Rattle.ring_rules.specs.Soundness.{Sound};
 ghost use Rattle.ring.specs.View.{state};
 ghost use Rattle.log_text.specs.Wrote.{Wrote};
 ghost use Rattle.log_rules.specs.Lines.{lineLimit};
@@ -43,34 +54,6 @@ pub struct RingFed {
     pub lines: u64,
     pub next: usize,
     pub at: usize,
-}
-
-// A step by its kind number.
-pub struct Request {
-    pub kind: u8,
-    pub i: usize,
-    pub j: usize,
-}
-
-pub fn request_of(f: RingStep) -> Request
-    ensures { λ q. ⌜ (q .kind ≡ ringRequest f .kind) × (q .i ≡ ringRequest f .i) × (q .j ≡ ringRequest f .j) ⌝ }
-{
-    match f {
-        RingStep::Send(i, j) => Request { kind: 1, i, j },
-        RingStep::Take(i) => Request { kind: 2, i, j: 0 },
-        RingStep::Idle(i) => Request { kind: 3, i, j: 0 },
-        RingStep::Probe => Request {
-            kind: 4,
-            i: 0,
-            j: 0,
-        },
-        RingStep::Pass(i) => Request { kind: 5, i, j: 0 },
-        RingStep::Announce => Request {
-            kind: 6,
-            i: 0,
-            j: 0,
-        },
-    }
 }
 
 // One more move, where the step is a token move.
@@ -97,6 +80,34 @@ pub fn moved(f: RingStep, v: Verdict) -> u64
     }
 }
 
+// The step f, carried out.
+fn carry_out(
+    r: Rest,
+    active: &mut [bool; RING_NODES],
+    color: &mut [u8; COLOR_BYTES],
+    sent: &mut [u32; RING_NODES],
+    received: &mut [u32; RING_NODES],
+    pending: &mut [u32; RING_NODES],
+    f: RingStep,
+) -> Told
+    requires { ⌜ Sound (whole r (now active) (now color) (now sent) (now received) (now pending)) ⌝ }
+    ensures { λ d. ⌜ answer (d .verdict) (whole (d .rest) (now (active .exit)) (now (color .exit)) (now (sent .exit)) (now (received .exit)) (now (pending .exit)))
+        ≡ stepOf (whole r (now (active .entry)) (now (color .entry)) (now (sent .entry)) (now (received .entry)) (now (pending .entry)))
+        (ringRequest f .kind) (ringRequest f .i) (ringRequest f .j) ⌝ }
+{
+    if r.closed {
+        return refused(r, Refusal::Closed);
+    }
+    match f {
+        RingStep::Send(i, j) => send(r, active, color, sent, received, pending, i, j),
+        RingStep::Take(i) => take(r, active, color, sent, received, pending, i),
+        RingStep::Idle(i) => idle(r, active, color, sent, received, pending, i),
+        RingStep::Probe => probe(r, active, color, sent, received, pending),
+        RingStep::Pass(i) => pass(r, active, color, sent, received, pending, i),
+        RingStep::Announce => announce(r, active, color, sent, received, pending),
+    }
+}
+
 // The step f, carried out and answered as the next line, which ends before index `end`.
 fn step_line(
     r: RingRun,
@@ -116,18 +127,7 @@ fn step_line(
         (RingLine.Step f end) end (now (out .entry)) (now (out .exit)) ⌝ }
 {
     let rest = r.rest;
-    let q = request_of(f);
-    let d = ring_steps::step(
-        rest,
-        active,
-        color,
-        sent,
-        received,
-        pending,
-        q.kind,
-        q.i,
-        q.j,
-    );
+    let d = carry_out(rest, active, color, sent, received, pending, f);
     let v = d.verdict;
     let next = d.rest;
     let moves = r.moves + moved(f, v);

@@ -4,7 +4,6 @@ use first_line::FirstKind;
 use forms::RingStep;
 use log_lines::line_end;
 use log_ring::moved;
-use log_ring::request_of;
 use log_rules::LINE_LIMIT;
 use log_text::put_answer;
 use refusal::COLOR_BYTES;
@@ -26,7 +25,7 @@ ghost use mathlib.Core.Path.{_≡_};
 ghost use Prim.Native.Nat.{_+_, _≤_, _<_, _^_};
 ghost use lib.ListN.{length, getD, set};
 ghost use Rattle.first_line.specs.Meaning.{Flags};
-ghost use Rattle.log_rules.specs.Answers.{addAt, answerBytes, answerText, updateStepTold, updateStartTold};
+ghost use Rattle.log_rules.specs.Answers.{addAt, answerBytes, answerText, ringRequest, updateStepTold, updateStartTold};
 ghost use Rattle.log_rules.specs.Lines.{lineLimit};
 ghost use Rattle.log_rules.specs.Pieces.{Onward, NoMore};
 ghost use Rattle.log_text.specs.Wrote.{Wrote};
@@ -52,6 +51,34 @@ pub struct TableFed {
     pub lines: u64,
     pub next: usize,
     pub at: usize,
+}
+
+// A step by its kind number.
+pub struct Request {
+    pub kind: u8,
+    pub i: usize,
+    pub j: usize,
+}
+
+fn request_of(f: RingStep) -> Request
+    ensures { λ q. ⌜ (q .kind ≡ ringRequest f .kind) × (q .i ≡ ringRequest f .i) × (q .j ≡ ringRequest f .j) ⌝ }
+{
+    match f {
+        RingStep::Send(i, j) => Request { kind: 1, i, j },
+        RingStep::Take(i) => Request { kind: 2, i, j: 0 },
+        RingStep::Idle(i) => Request { kind: 3, i, j: 0 },
+        RingStep::Probe => Request {
+            kind: 4,
+            i: 0,
+            j: 0,
+        },
+        RingStep::Pass(i) => Request { kind: 5, i, j: 0 },
+        RingStep::Announce => Request {
+            kind: 6,
+            i: 0,
+            j: 0,
+        },
+    }
 }
 
 // d more token moves of update u.

@@ -25,7 +25,8 @@ fn ring_kind(kind: u8, i: usize, j: usize) -> RingStep
     }
 }
 
-fn ring_line(kind: u8, a: Args) -> RingLine
+// The step that a word's numbers make.
+pub fn ring_line(kind: u8, a: Args) -> RingLine
     ensures { λ r. ⌜ r ≡ ringLineOf (madeOf (ringKind kind) a) ⌝ }
 {
     match a {
@@ -35,7 +36,7 @@ fn ring_line(kind: u8, a: Args) -> RingLine
 }
 
 // The step of the ring that stands at `at`, and the index past its form.
-pub fn ring_form(s: &[u8], at: usize) -> RingLine
+fn ring_form(s: &[u8], at: usize) -> RingLine
     ensures { λ r. ⌜ r ≡ ringLineOf (readBy ringShapes (now (s .entry)) at) ⌝ }
 {
     if has(s, at, b"(send") {

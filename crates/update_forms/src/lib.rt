@@ -8,12 +8,16 @@ use first_line::start_at;
 use first_line::until;
 use forms::RingLine;
 use forms::RingStep;
+use forms::closed;
 use forms::ends_line;
+use forms::one_number;
 use forms::spaced;
+use forms::two_numbers;
 use refusal::RING_NODES;
-use ring_forms::ring_form;
+use ring_forms::ring_line;
 ghost use mathlib.Core.Path.{_≡_};
 ghost use Rattle.first_line.specs.declared.FirstKind.the-variants.{Ring};
+ghost use Rattle.forms.specs.Read.{readBy, ringShapes, ringLineOf};
 ghost use Rattle.update_forms.specs.Read.{spaceAfter, openedOf, stepIn, updateLineOf, noStart, startOf, startIn, wrappedSeen, wrappedAt};
 ghost use Rattle.update_forms.specs.Exact.{UpdateRead};
 
@@ -54,6 +58,32 @@ fn opened(s: &[u8], at: usize) -> Num
     space_after(s, spaced(s, at + 7))
 }
 
+// The step of the ring that stands at `at`, and the index past its form: the same as `ring_step` begins with. Each reader has a copy of its
+// own, with one caller, which the compiler takes into the caller's loop; one copy for both is a call for every line.
+fn inner_step(s: &[u8], at: usize) -> RingLine
+    ensures { λ r. ⌜ r ≡ ringLineOf (readBy ringShapes (now (s .entry)) at) ⌝ }
+{
+    if has(s, at, b"(send") {
+        return ring_line(1, two_numbers(s, at + 5));
+    }
+    if has(s, at, b"(take") {
+        return ring_line(2, one_number(s, at + 5));
+    }
+    if has(s, at, b"(idle") {
+        return ring_line(3, one_number(s, at + 5));
+    }
+    if has(s, at, b"(probe") {
+        return ring_line(4, closed(s, at + 6, 0, 0));
+    }
+    if has(s, at, b"(pass") {
+        return ring_line(5, one_number(s, at + 5));
+    }
+    if has(s, at, b"(announce") {
+        return ring_line(6, closed(s, at + 9, 0, 0));
+    }
+    RingLine::NotAForm
+}
+
 // The step of update u whose form was read, up to the end of the line.
 fn step_in(s: &[u8], u: usize, l: RingLine) -> UpdateLine
     ensures { λ r. ⌜ r ≡ stepIn (now (s .entry)) u l ⌝ }
@@ -78,7 +108,7 @@ pub fn update_step(s: &[u8], at: usize) -> UpdateLine
 {
     let m = opened(s, at);
     match m {
-        Num::Value(u, p) => step_in(s, u, ring_form(s, p)),
+        Num::Value(u, p) => step_in(s, u, inner_step(s, p)),
         Num::Wrong => UpdateLine::NotAForm,
     }
 }

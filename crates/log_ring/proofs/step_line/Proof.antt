@@ -7,11 +7,8 @@ use Rattle.log_ring.proofs.Laws.{step-answered}
 use Rattle.log_ring.proofs.step_line.Statement.{statement}
 use Rattle.log_ring.proofs.step_line.Tie as tie
 
-request-of-requires : tie.Need-request-of-requires
-request-of-requires c κs = search needs
-
-step-requires : tie.Need-step-requires
-step-requires c κs = search needs
+carry-out-requires : tie.Need-carry-out-requires
+carry-out-requires c κs = search needs
 
 moved-requires : tie.Need-moved-requires
 moved-requires c κs = search needs
@@ -24,9 +21,9 @@ add-lines c = search needs
 
 put-answer-requires : tie.Need-put-answer-requires
 put-answer-requires c κs =
-    let at-step = c .before .before .before .before .before in
-    let start = at-step .before .before .before .before .before .before .before .before .before in
-    omega (arith, start .pre .room, answer-short (start .args .r .lines + 1) (at-step .step .result .verdict) (omega (arith, start .pre .under)))
+    let at-carry-out = c .before .before .before .before .before in
+    let start = c .before .before .before .before .before .before .before .before .before .before .before .before .before in
+    omega (arith, start .pre .room, answer-short (start .args .r .lines + 1) (at-carry-out .carry-out .result .verdict) (omega (arith, start .pre .under)))
 
 same-length : tie.Need-same-length
 same-length c = search needs
@@ -34,19 +31,16 @@ same-length c = search needs
 returns : tie.Need-returns
 returns c =
     let at-moved = c .before .before .before .before .before .before in
-    let at-step = at-moved .before .before in
-    let at-request-of = at-step .before .before .before .before .before .before in
-    let start = at-request-of .before .before .before in
-    step-answered _ _ _ _ _ _ _ _ (at-step .step .result .verdict) (at-request-of .request-of .result .kind) (at-request-of .request-of .result .i)
-    (at-request-of .request-of .result .j) (at-moved .moved .result) (start .pre .sound) (start .pre .few) (at-step .step .ensures)
-    (at-request-of .request-of .ensures) (at-moved .moved .ensures) refl refl refl (c .before .before .put-answer .ensures)
+    let at-carry-out = c .before .before .before .before .before .before .before .before in
+    let start = c .before .before .before .before .before .before .before .before .before .before .before .before .before .before .before .before in
+    step-answered _ _ _ _ (start .args .f) _ _ _ (at-carry-out .carry-out .result .verdict) (at-moved .moved .result) (start .pre .sound) (start .pre .few)
+    (at-carry-out .carry-out .ensures) (at-moved .moved .ensures) refl refl refl (c .before .before .put-answer .ensures)
 
 pub step-line-spec : {M : Type 1} → statement M
 step-line-spec =
     tie.close
     (tie.spec
-    request-of-requires
-    step-requires
+    carry-out-requires
     moved-requires
     add-moves
     add-lines

@@ -12,8 +12,8 @@ opened-requires c κs = search needs
 enum-known-m : tie.Need-enum-known-m
 enum-known-m c = search needs
 
-ring-form-requires : tie.Need-ring-form-requires
-ring-form-requires c κs = search needs
+inner-step-requires : tie.Need-inner-step-requires
+inner-step-requires c κs = search needs
 
 step-in-requires : tie.Need-step-in-requires
 step-in-requires c κs = search needs
@@ -28,7 +28,7 @@ returns c =
     let a = at-opened .before .before .args in
     update-told (a .s .now) (a .at) _
     (c .step-in .ensures
-    ∙ (ap (stepIn (a .s .now) _) (c .before .ring-form .ensures)
+    ∙ (ap (stepIn (a .s .now) _) (c .before .inner-step .ensures)
     ∙ step-held (a .s .now) (a .at) _ _ (sym (at-opened .opened .ensures) ∙ at-m .m .given .1)))
 
 returns-2 : tie.Need-returns-2
@@ -42,7 +42,7 @@ update-step-spec =
     (tie.spec
     opened-requires
     enum-known-m
-    ring-form-requires
+    inner-step-requires
     step-in-requires
     enum-told
     returns
