@@ -2,8 +2,8 @@
 -- table of refusals; 0 where a request is accepted.
 use Prim.Native.Nat.{_+_, _-_, ℕ}
 use Prim.Native.String.{String}
-use lib.Dec.{eqb}
-use lib.IntN.{_+ℤ_}
+use lib.Dec.{eqb, leb}
+use lib.IntN.{_+ℤ_, ℤ}
 use lib.ListN.{length, replicate, set}
 use mathlib.Core.Bool.{Bool, _&&_, _||_, cond, false, not, true}
 use mathlib.Core.List.{List, [], _++_, _∷_}
@@ -11,15 +11,19 @@ use Rattle.color.specs.Colors.{blackened, isBlack, whitened}
 use Rattle.decimal.specs.Bytes.{bytes}
 use Rattle.laws.specs.Places.{allTo}
 use Rattle.lent.specs.Ring.{Lent, driveFields, driveMoves, driveNumber, soundNumber, startFields, startNumber, stepFields, stepNumber}
+use Rattle.lent.specs.Table.{LentTable, askFields, askNumber, tableSoundNumber}
 use Rattle.lent.specs.Tree.{LentTree, readEngagers, readNumber, readRoot, treeSoundNumber, treeStartFields, treeStartNumber, treeStepFields, treeStepNumber, writeBuffer, writeLength, writeNumber}
 use Rattle.log_rules.specs.Output.{outputOf}
-use Rattle.refusal.specs.Table.{codeOf, numberOf}
+use Rattle.refusal.specs.Table.{codeOf, numberOf, sendLimit}
 use Rattle.refusal.specs.declared.Refusal.{Refusal}
 use Rattle.ring_rules.specs.Driver.{driveOf, reasonNumber}
 use Rattle.ring_rules.specs.declared.Reason.{Reason}
 use Rattle.ring_rules.specs.declared.Reason.the-variants.{Conclusive, Spent, Waiting}
 use Rattle.runs.specs.Runs.{Request, acceptedOf, runOf}
 use Rattle.signed.specs.Integers.{isPositive, isSame}
+use Rattle.table_rules.specs.Answers.{Ask, Start, Step, verdictOn}
+use Rattle.table_rules.specs.Soundness.{slotTest}
+use Rattle.table_rules.specs.Table.{Table, fixed, nodesOf, sends, slotAt}
 use Rattle.tree_rules.specs.Termination.{acksTotal, engagedOthers}
 use Rattle.tree_text.specs.Read.{readOf}
 use Rattle.tree_text.specs.Text.{textOf}
@@ -56,6 +60,10 @@ pub data RingTest : Type 0 where
 pub data TreeTest : Type 0 where
   Range Engagers Chains Balance Resting Pairs Limit Announced : TreeTest
 
+-- of a table: each started update is sound; it is so with the one N; the sends together
+pub data TableTest : Type 0 where
+  Each OneN Limit : TableTest
+
 -- Safra's four
 pub data SafraTest : Type 0 where
   Gathered Positive BlackNode BlackToken : SafraTest
@@ -83,6 +91,10 @@ pub data Case : Type 0 where
   -- the tree is sound; of the tests of soundness these alone fail, and 3 is the answer
   tree-sound : tree.State → Case
   tree-unsound : List TreeTest → tree.State → Case
+  -- the table is sound; of the tests of soundness these alone fail, and 3 is the answer; a request to a table is answered with this number
+  table-sound : Table → Case
+  table-unsound : List TableTest → Table → Case
+  table-ask : Table → Ask → ℕ → Case
   -- the writer, lent so many bytes, answers with this number
   writes : tree.State → ℕ → ℕ → Case
   -- a tree of these engagers and this root has this text, and a reader of n nodes gives them back; a text is refused by it so
@@ -109,6 +121,9 @@ pub data Case : Type 0 where
   lent-tree-start : ℕ → ℕ → LentTree → ℕ → LentTree → Case
   lent-tree-step : LentTree → ℕ → ℕ → ℕ → ℕ → LentTree → Case
   lent-tree-sound : LentTree → ℕ → Case
+  -- of a lent table, the number that a request is answered with, and the columns after it; the number of its soundness
+  lent-table : LentTable → Ask → ℕ → LentTable → Case
+  lent-table-sound : LentTable → ℕ → Case
   -- of a lent tree, the buffer and the length before, the number of the answer, and the length and the buffer after; of n nodes and a text,
   -- the engagers and the root before, the number of the answer, and the engagers and the root after
   lent-write : LentTree → List ℕ → ℕ → ℕ → ℕ → List ℕ → Case
@@ -215,6 +230,24 @@ abbrev pub treePlaces : List TreeTest → List ℕ
 treePlaces [] = []
 treePlaces (c ∷ cs) = treePlace c ∷ treePlaces cs
 
+-- a ring that is not sound with its own N is so with no other
+abbrev pub tableTests : Table → List Bool
+tableTests t =
+    eqb (length (t .slots)) 8
+    ∷ allTo 8 (λ u. slotTest (nodesOf (slotAt t u)) (slotAt t u))
+    ∷ allTo 8 (λ u. slotTest (fixed t) (slotAt t u))
+    ∷ leb (sends t) sendLimit
+    ∷ []
+
+abbrev pub tablePlace : TableTest → ℕ
+tablePlace Each = 1
+tablePlace OneN = 2
+tablePlace Limit = 3
+
+abbrev pub tablePlaces : List TableTest → List ℕ
+tablePlaces [] = []
+tablePlaces (c ∷ cs) = tablePlace c ∷ tablePlaces cs
+
 -- the numbers that a state handed in gets: from a step, from the driver, and where its messages in transit and its black nodes are asked for;
 -- from a step, from the writer, and where its acknowledgements are asked for
 abbrev pub ringTold : ring.State → List ℕ
@@ -231,6 +264,10 @@ treeTold t =
     ∷ writtenNumber (writtenOf t (replicate 100 0))
     ∷ codeOf (treeAnswers.acksAnswer t .verdict)
     ∷ []
+
+-- from a start and from a step
+abbrev pub tableTold : Table → List ℕ
+tableTold t = codeOf (verdictOn t (Start 0 1 (0 ∷ []))) ∷ codeOf (verdictOn t (Step 0 ringRequests.probe)) ∷ []
 
 abbrev pub isRingSound : ring.State → Bool
 isRingSound r = failAt [] 0 (ringTests r) && not (among 3 (ringTold r))
@@ -288,6 +325,30 @@ sameLentTree a b =
     && (sameList (a .transit) (b .transit)
     && (sameList (a .acks) (b .acks) && (eqb (a .sends) (b .sends) && eqb (a .closed) (b .closed))))))))
 
+abbrev pub sameRows : List (List ℕ) → List (List ℕ) → Bool
+sameRows [] [] = true
+sameRows [] (y ∷ ys) = false
+sameRows (x ∷ xs) [] = false
+sameRows (x ∷ xs) (y ∷ ys) = sameList x y && sameRows xs ys
+
+abbrev pub sameSums : List ℤ → List ℤ → Bool
+sameSums [] [] = true
+sameSums [] (y ∷ ys) = false
+sameSums (x ∷ xs) [] = false
+sameSums (x ∷ xs) (y ∷ ys) = isSame x y && sameSums xs ys
+
+-- all ten columns, each at all eight places
+abbrev pub sameLentTable : LentTable → LentTable → Bool
+sameLentTable a b =
+    sameList (a .n) (b .n)
+    && (sameList (a .pos) (b .pos)
+    && (sameSums (a .q) (b .q)
+    && (sameList (a .black) (b .black)
+    && (sameList (a .closed) (b .closed)
+    && (sameRows (a .active) (b .active)
+    && (sameRows (a .color) (b .color)
+    && (sameRows (a .sent) (b .sent) && (sameRows (a .received) (b .received) && sameRows (a .pending) (b .pending)))))))))
+
 -- ---- the answer
 
 unfoldable pub passes : Case → Bool
@@ -308,6 +369,9 @@ passes (sound-by c r) = isRingSound r && failAt (others c) 0 (safraTests r)
 passes (ring-unsound c r) = failAt (ringPlace c ∷ []) 0 (ringTests r) && sameList (ringTold r) (3 ∷ 3 ∷ 3 ∷ 3 ∷ [])
 passes (tree-sound t) = failAt [] 0 (treeTests t) && not (among 3 (treeTold t))
 passes (tree-unsound cs t) = failAt (treePlaces cs) 0 (treeTests t) && sameList (treeTold t) (3 ∷ 3 ∷ 3 ∷ [])
+passes (table-sound t) = failAt [] 0 (tableTests t) && not (among 3 (tableTold t))
+passes (table-unsound cs t) = failAt (tablePlaces cs) 0 (tableTests t) && sameList (tableTold t) (3 ∷ 3 ∷ [])
+passes (table-ask t a k) = eqb (codeOf (verdictOn t a)) k
 passes (writes t size k) = eqb (writtenNumber (writtenOf t (replicate size 0))) k
 passes (text n l root s) =
     sameList (textOf (none-after l) root) (bytes s)
@@ -328,6 +392,8 @@ passes (lent-drive l limit moves k made after) =
 passes (lent-tree-start n root before k after) = eqb (treeStartNumber n root) k && sameLentTree (treeStartFields n root before) after
 passes (lent-tree-step l kind i j k after) = eqb (treeStepNumber l kind i j) k && sameLentTree (treeStepFields l kind i j) after
 passes (lent-tree-sound l k) = eqb (treeSoundNumber l) k
+passes (lent-table m a k after) = eqb (askNumber m a) k && sameLentTable (askFields m a) after
+passes (lent-table-sound m k) = eqb (tableSoundNumber m) k
 passes (lent-write l buf size k long after) =
     eqb (writeNumber l buf) k && (eqb (writeLength l buf size) long && sameList (writeBuffer l buf) after)
 passes (lent-read n s engager root k engager′ root′) =

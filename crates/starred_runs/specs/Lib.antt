@@ -4,10 +4,12 @@ pub mod Case
 pub mod TableRuns
 pub mod TableRings
 pub mod TableTrees
+pub mod TableUpdates
 pub mod TableRefusals
 pub mod TableLimits
 pub mod TableNumbers
 pub mod TableTexts
 pub mod TableLent
 pub mod TableLentTrees
+pub mod TableLentUpdates
 pub mod Table

@@ -8,8 +8,10 @@ use Rattle.starred_runs.specs.TableNumbers.{numbers}
 use Rattle.starred_runs.specs.TableRefusals.{order, outside}
 use Rattle.starred_runs.specs.TableRuns.{runs}
 use Rattle.starred_runs.specs.TableTexts.{texts}
+use Rattle.starred_runs.specs.TableUpdates.{updates}
 use Rattle.starred_runs.specs.TableLent as lent
 use Rattle.starred_runs.specs.TableLentTrees as lentTree
+use Rattle.starred_runs.specs.TableLentUpdates as lentTable
 use Rattle.starred_runs.specs.TableRings as ring
 use Rattle.starred_runs.specs.TableTrees as tree
 
@@ -29,7 +31,10 @@ refusals = order ++ (outside ++ limits)
 unfoldable pub written : List Case
 written = numbers ++ texts
 
--- what other languages are told
+-- what other languages are told: of tables; of rings and trees
+unfoldable pub tableCalls : List Case
+tableCalls = lentTable.starts ++ (lentTable.steps ++ lentTable.soundness)
+
 unfoldable pub calls : List Case
 calls =
     lent.steps
@@ -39,7 +44,7 @@ calls =
     ++ (lent.starts ++ (lentTree.steps ++ (lentTree.soundness ++ (lentTree.not-sound ++ (lentTree.starts ++ lentTree.texts))))))))
 
 unfoldable pub table : List Case
-table = runs ++ (rings ++ (trees ++ (refusals ++ (written ++ calls))))
+table = runs ++ (rings ++ (trees ++ (updates ++ (refusals ++ (written ++ (tableCalls ++ calls))))))
 
 abbrev pub AllPass : Type 0
 AllPass = allPass table ≡ true

@@ -5,8 +5,11 @@ use lib.ListN.{replicate}
 use mathlib.Core.List.{List, [], _∷_}
 use Rattle.decimal.specs.Bytes.{bytes}
 use Rattle.runs.specs.Runs.{Request}
+use Rattle.table_rules.specs.Answers.{Start, Step}
+use Rattle.table_rules.specs.Table.{Table, emptyTable}
 use Rattle.starred_runs.specs.TableRuns.{ringOf, treeOf}
-use Rattle.starred_runs.specs.Case.{Case, _is_, drives, prints, ring-run, ring-start, tree-run, tree-start, writes}
+use Rattle.starred_runs.specs.TableUpdates.{two}
+use Rattle.starred_runs.specs.Case.{Case, _is_, drives, prints, ring-run, ring-start, table-ask, tree-run, tree-start, writes}
 use Rattle.ring_rules.specs.State as ringState
 use Rattle.ring_runs.specs.Requests as ring
 use Rattle.tree_rules.specs.State as treeState
@@ -43,6 +46,18 @@ treeUnsound = trees.handed (trees.closed ∷ trees.passive 0 ∷ trees.active 3 
 abbrev pub treeSpent : treeState.State
 treeSpent = trees.handed (trees.sends 1000000 ∷ [])
 
+-- updates 0 and 7 of three nodes; with two numbers of nodes; all sends spent, by neither of the two alone
+abbrev pub tableStarted : Table
+tableStarted = two (rings.handed []) (rings.handed [])
+
+abbrev pub tableUnsound : Table
+tableUnsound = two (rings.handed []) (rings.handed (rings.nodes 2 ∷ []))
+
+abbrev pub tableSpent : Table
+tableSpent =
+    two (rings.handed (rings.active 0 ∷ rings.sent 0 999999 ∷ rings.received 1 999999 ∷ []))
+    (rings.handed (rings.active 0 ∷ rings.sent 0 1 ∷ rings.received 1 1 ∷ []))
+
 unfoldable pub order : List Case
 order =
     -- "start, 1, boards outside 1 to 96 (tree 1 to 16)" over "start, 2, flag bytes not N in number, or one above 3" and, of the tree, over 6
@@ -75,6 +90,29 @@ order =
     -- 8 over 9
     ∷ ring-run ringSpent (ring.send 1 0 is 8 ∷ ring.send 0 1 is 9 ∷ [])
     ∷ tree-run treeSpent (tree.send 1 0 is 8 ∷ tree.send 0 1 is 9 ∷ [])
+    -- Q-1: 3 over 13, "checked after 3": an update above 7, or a step on one not started
+    ∷ table-ask tableUnsound (Start 8 3 (0 ∷ 0 ∷ 0 ∷ [])) 3
+    ∷ table-ask tableUnsound (Step 8 ring.probe) 3
+    ∷ table-ask tableUnsound (Step 3 ring.probe) 3
+    -- 13 over 1, "another N is 1, checked after 13", and over 2
+    ∷ table-ask emptyTable (Start 8 0 []) 13
+    ∷ table-ask emptyTable (Start huge 97 []) 13
+    ∷ table-ask tableStarted (Start 8 2 (0 ∷ 0 ∷ [])) 13
+    ∷ table-ask tableStarted (Start 8 3 []) 13
+    -- 1 over 2
+    ∷ table-ask emptyTable (Start 7 0 (0 ∷ [])) 1
+    ∷ table-ask emptyTable (Start 7 97 []) 1
+    ∷ table-ask tableStarted (Start 7 2 (4 ∷ 4 ∷ [])) 1
+    ∷ table-ask tableStarted (Start 3 2 []) 1
+    ∷ table-ask tableStarted (Start 3 3 []) 2
+    -- 13 over 5 and what is below it
+    ∷ table-ask tableSpent (Step 8 (request 7 huge huge)) 13
+    ∷ table-ask tableSpent (Step 3 (request 7 huge huge)) 13
+    ∷ table-ask tableSpent (Step 3 (ring.send 0 1)) 13
+    -- 8 over 9 where the two together have spent the sends
+    ∷ table-ask tableSpent (Step 7 (ring.send 1 0)) 8
+    ∷ table-ask tableSpent (Step 7 (ring.send 0 1)) 9
+    ∷ table-ask tableSpent (Step 0 (ring.send 0 1)) 9
     -- 3 over 4, 4 over "driver, 11, move limit above 1,000, checked after 4", and 3 over 11
     ∷ drives ringUnsound 1000 3 0
     ∷ drives ringUnsound 1001 3 0
@@ -97,6 +135,11 @@ order =
     ∷ prints (bytes "(tree 17 (root 17))\n") "(no 1 1)\n"
     ∷ prints (bytes "(tree 0 (root 0))\n") "(no 1 1)\n"
     ∷ prints (bytes "(tree 3 (root 3))\n") "(no 1 6)\n"
+    -- Q-1: 10 over 13, and 13 over 1 and 6
+    ∷ prints (bytes "(update 8 (ring 02))\n") "(no 1 10)\n"
+    ∷ prints (bytes "(update 8 (ring 97))\n") "(no 1 13)\n"
+    ∷ prints (bytes "(update 8 (ring 2 (active 2) (black)))\n") "(no 1 13)\n"
+    ∷ prints (bytes "(update 7 (ring 97 (active 97) (black)))\n") "(no 1 1)\n"
     -- 10 over 4, in a closed run
     ∷ prints
     (bytes "(ring 1)\n(probe)\n(announce)\n(leave 0)\n(probe)\n")
