@@ -1,5 +1,5 @@
 -- Q-1: a table of eight updates that is lent field by field, a column of eight places for each field of a ring, truths as bytes as in Ring.antt.
--- An update of no nodes is not started: nothing is asked of the rest of its place, nor is it ever read.
+-- An update of no nodes is not started: no answer depends on the rest of its place.
 use Prim.Native.Nat.{ℕ}
 use lib.Dec.{eqb}
 use lib.IntN.{pos, ℤ}

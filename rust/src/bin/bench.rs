@@ -88,6 +88,9 @@ fn measure_updates(lines: usize, programs: [&[&str]; 3]) -> io::Result<()> {
     print_row("unwrapped", lines, &found[3..]);
     let ratio = found[0] / found[3];
     println!("updates / unwrapped, proved: {ratio:.2} (asked: at most {UPDATES_RATIO})");
+    if ratio > UPDATES_RATIO {
+        return Err(io::Error::other("a log of updates takes too long"));
+    }
     Ok(())
 }
 
