@@ -11,7 +11,7 @@ use Rattle.runs.specs.Runs.{runOf}
 use Rattle.table_rules.proofs.Alone.{alone, not-disturbed}
 use Rattle.table_rules.proofs.Keeps.{after-sends, after-sound, next-fixed, next-sound}
 use Rattle.table_rules.proofs.Limit.{limit-decides, limit-only, limit-rows}
-use Rattle.table_rules.proofs.Numbers.{none-fixed, past, start-accepted, start-fixed, unknown-start, unknown-step, unsound-three}
+use Rattle.table_rules.proofs.Numbers.{node-count, none-fixed, past, start-accepted, start-fixed, start-flags, unknown-start, unknown-step, unsound-three}
 use Rattle.table_rules.proofs.Soundness.{fixed-n, table-true, true-table}
 use Rattle.table_rules.specs.Answers.{Ask, Start, Step, after, answerOn, nextTable, rowsOf, verdictOn}
 use Rattle.table_rules.specs.Runs.{table}
@@ -66,6 +66,8 @@ table-numbers =
       unknown-step = unknown-step;
       past = past;
       start = start-accepted;
+      node-count = node-count;
+      start-flags = start-flags;
       unsound = unsound-three;
       fixed-by-started = fixed-n;
       fixed-by-start = λ t u n flags e. ap fixed (accepted-table t (Start u n flags) e) ∙ start-fixed t u n flags e;

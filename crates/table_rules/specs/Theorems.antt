@@ -1,15 +1,15 @@
 -- What is proved of the table; the proofs are in proofs/, put together in proofs/Theorems.antt.
-use Prim.Native.Nat.{_+_, _<_, ℕ}
+use Prim.Native.Nat.{_+_, _<_, _≤_, ℕ}
 use mathlib.Core.Bool.{false, true}
 use mathlib.Core.List.{List}
-use mathlib.Core.Logic.{_↔_, _⊎_}
+use mathlib.Core.Logic.{_↔_, _≢_, _⊎_}
 use mathlib.Core.Path.{_≡_}
 use Rattle.refusal.specs.Table.{FirstIs, NoneHolds, Row, codeOf, firstOf, sendLimit, stepRows}
 use Rattle.refusal.specs.declared.Refusal.{Refusal}
 use Rattle.refusal.specs.declared.Verdict.the-variants.{Accepted, Refused}
 use Rattle.ring_rules.specs.Answers.{outside, toSelf, unknown}
 use Rattle.ring_rules.specs.Rules.{Kind, Send, guard, kindOf}
-use Rattle.ring_rules.specs.Start.{startVerdict}
+use Rattle.ring_rules.specs.Start.{flagsTest, startVerdict}
 use Rattle.ring_rules.specs.State.{State}
 use Rattle.ring_rules.specs.Theorems.{Sending}
 use Rattle.runs.specs.Runs.{Request, runOf}
@@ -48,6 +48,14 @@ pub record TableNumbers : Type 0 where
   pub start :
       (t : Table) → SoundTable t → (u n : ℕ) (flags : List ℕ)
       → (verdictOn t (Start u n flags) ≡ Accepted) ↔ ((u < 8) × ((fixed t ≡ 0) ⊎ (n ≡ fixed t)) × (startVerdict n flags ≡ Accepted))
+  -- 1 exactly if n is not from 1 to 96, or another than the one fixed; 2 exactly if n is neither and the flags are not n values from 0 to 3
+  pub node-count :
+      (t : Table) → SoundTable t → (u n : ℕ) (flags : List ℕ)
+      → (codeOf (verdictOn t (Start u n flags)) ≡ 1) ↔ ((u < 8) × ((n ≡ 0) ⊎ ((96 < n) ⊎ ((0 < fixed t) × (n ≢ fixed t)))))
+  pub start-flags :
+      (t : Table) → SoundTable t → (u n : ℕ) (flags : List ℕ)
+      → (codeOf (verdictOn t (Start u n flags)) ≡ 2)
+      ↔ ((u < 8) × (0 < n) × (n ≤ 96) × ((fixed t ≡ 0) ⊎ (n ≡ fixed t)) × (flagsTest n flags ≡ false))
   pub unsound : (t : Table) → (SoundTable t → ⊥) → (a : Ask) → codeOf (verdictOn t a) ≡ 3
   -- the number that is fixed is that of every started update; a start fixes its own; nothing is started where none is fixed
   pub fixed-by-started : (t : Table) → SoundTable t → (u : ℕ) (r : State) → slotAt t u ≡ Started r → fixed t ≡ r .n
