@@ -14,11 +14,11 @@ use Rattle.ring_rules.proofs.Theorems.{start-answered}
 use Rattle.ring_rules.specs.Soundness.{Open}
 use Rattle.ring_rules.specs.Start.{firstState, startVerdict}
 use Rattle.ring_rules.specs.State.{State, pendingAt, receivedAt}
-use Rattle.ring_runs.proofs.Trace.{closed-none}
+use Rattle.ring_runs.proofs.Trace.{closed-none, may}
 use Rattle.ring_runs.proofs.WholeRun.{whole-runs}
 use Rattle.ring_runs.specs.Counts.{AllMoves, QuietBy, Unannounced, announcedIn, ring, sendsTo, takesBy}
 use Rattle.ring_runs.specs.WholeRun.{Counted as CountedRing, Point as PointRing}
-use Rattle.runs.proofs.Runs.{accepted-append, run-of}
+use Rattle.runs.proofs.Runs.{Run, accepted-append, kept, run-of, stop, took}
 use Rattle.runs.specs.Runs.{Request, acceptedOf, runOf}
 use Rattle.table_rules.proofs.Theorems.{run-sound}
 use Rattle.table_rules.specs.Answers.{Ask, Start, Step, answerOn, nextTable, verdictOn}
@@ -229,6 +229,12 @@ module _ (t : Table) (ok : SoundTable t) (u : ℕ) (ls : List Ask) (e : startedO
         pending = λ b. counts b .1 ∙ ap (λ (l : List Request). sendsTo l b) (sym (same t ok u ls first (w .stands)));
       }
 
+-- a closed ring stays as it is
+closed-same : {r s : State} {xs acc : List Request} → Run ring r xs s acc → r .closed ≡ true → s ≡ r
+closed-same stop e = refl
+closed-same (took {s = r} {x = x} a c) e = absurd (false-true (sym (may r x a .running) ∙ e))
+closed-same (kept c) e = closed-same c e
+
 pub whole-table : WholeTable
 unfolding answerOn
 whole-table =
@@ -237,7 +243,9 @@ whole-table =
       from-start = from-start;
       closed =
           λ t ok u r at c ls h.
-          further t ok u r at ls h .1 ∙ closed-none (run-of ring r (heardOf u t ls .steps)) c;
+          let w = further t ok u r at ls h in
+          let run = run-of ring r (heardOf u t ls .steps) in
+          (w .0 ∙ ap Started (closed-same run c), w .1 ∙ closed-none run c);
       not-started =
           λ t ok u at ls h.
           let e = history-here t u ls h in

@@ -40,7 +40,7 @@ pub record Countdown (t : Table) (u n : ℕ) : Type 0 where
   pub counted : (bs : List Ask) → startedOf u t bs ≡ false → announcedIn (takenOf u t bs) ≡ false → Counted t u K bs
 
 -- The steps of u since its latest start, less those refused with 9, are a run of the ring from r to s: with the same answers, and the same
--- ones accepted.
+-- ones accepted. A send that the ring's own limit refuses is left out too; of every 9 LimitCounted speaks.
 pub record FollowsRing (t : Table) (u : ℕ) (ls : List Ask) (r s : State) : Type 0 where
   pub state : s ≡ runOf ring r (heardOf u t ls .steps)
   pub answers : heardOf u t ls .answers ≡ ringAnswers r (heardOf u t ls .steps)
@@ -82,10 +82,10 @@ pub record WholeTable : Type 0 where
   pub point :
       (t : Table) → SoundTable t → (u : ℕ) (ls : List Ask) (r : State) → historyOf u t ls .first ≡ Started r → r .closed ≡ false → Point t u ls r
   pub from-start : (t : Table) → SoundTable t → (u : ℕ) (ls : List Ask) → startedOf u t ls ≡ true → FromStart t u ls
-  -- an update that was announced in the first table, or not started in it, accepts no step until it is started
+  -- an update that was announced in the first table, or not started in it, accepts no step and stays as it is until it is started
   pub closed :
       (t : Table) → SoundTable t → (u : ℕ) (r : State) → slotAt t u ≡ Started r → r .closed ≡ true → (ls : List Ask) → startedOf u t ls ≡ false
-      → takenOf u t ls ≡ []
+      → (slotAt (runOf table t ls) u ≡ Started r) × (takenOf u t ls ≡ [])
   pub not-started :
       (t : Table) → SoundTable t → (u : ℕ) → slotAt t u ≡ NotStarted → (ls : List Ask) → startedOf u t ls ≡ false
       → (slotAt (runOf table t ls) u ≡ NotStarted) × (takenOf u t ls ≡ [])
