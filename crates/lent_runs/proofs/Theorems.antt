@@ -10,7 +10,7 @@ use Rattle.laws.proofs.Tests.{both}
 use Rattle.lent.proofs.Calls.{calls-answer}
 use Rattle.lent.proofs.Sound.{fields-hold}
 use Rattle.lent.specs.Ring.{Lent, lentOf, stateOf, truthsTest}
-use Rattle.lent.specs.Table.{Eight, LentTable, tableIn, tableSoundNumber, tableTruths}
+use Rattle.lent.specs.Table.{Eight, LentTable, askNumber, tableIn, tableSoundNumber, tableTruths}
 use Rattle.lent.specs.Tree.{LentTree, lentTreeOf, treeOf, treeStepNumber, treeTruthsTest}
 use Rattle.refusal.proofs.Table.{code-accepted}
 use Rattle.refusal.specs.Table.{codeOf}
@@ -20,10 +20,11 @@ use Rattle.refusal.specs.declared.Verdict.the-variants.{Accepted, Refused}
 use Rattle.runs.proofs.Runs.{run-of}
 use Rattle.runs.specs.Runs.{Request, acceptedOf, runOf}
 use Rattle.table_rules.proofs.Theorems.{table-kept, table-tested}
-use Rattle.table_rules.specs.Answers.{Ask, verdictOn}
+use Rattle.table_rules.specs.Answers.{Ask, Step, verdictOn}
 use Rattle.table_rules.specs.Runs.{table}
 use Rattle.table_rules.specs.Soundness.{soundTableTest}
 use Rattle.table_rules.specs.Table.{Table}
+use Rattle.table_runs.proofs.WholeRun.{whole-table}
 use Rattle.ring_rules.proofs.Answers as ringAnswered
 use Rattle.ring_rules.proofs.Driver as ringDriver
 use Rattle.ring_rules.proofs.Theorems as ringRules
@@ -165,17 +166,21 @@ table-calls : (m : LentTable) → Eight m → tableSoundNumber m ≡ 1 → (ls :
 table-calls m e k ls =
     let p = both (tableTruths m) (soundTableTest (tableIn m)) (one-true _ k) in
     let c = tables.comes m e (p .0) ls in
+    let ok = table-tested .holds (tableIn m) (p .1) in
+    let told : (a : Ask) → askNumber (columnsAfter m ls) a ≡ codeOf (verdictOn (runOf table (tableIn m) ls) a) = λ a.
+    ap (λ (b : Bool). codeOf (cond b (verdictOn (tableIn (columnsAfter m ls)) a) (Refused Unsound))) (c .truths) ∙
+    ap (λ (t : Table). codeOf (verdictOn t a)) (c .table-there) in
     record {
       there = c .table-there;
-      told = λ a.
-          ap (λ (b : Bool). codeOf (cond b (verdictOn (tableIn (columnsAfter m ls)) a) (Refused Unsound))) (c .truths)
-          ∙ ap (λ (t : Table). codeOf (verdictOn t a)) (c .table-there);
+      told = told;
       sound =
           rw (
             c .truths,
             c .table-there,
-            table-tested .tested (runOf table (tableIn m) ls) (table-kept .run (tableIn m) (table-tested .holds (tableIn m) (p .1)) ls),
+            table-tested .tested (runOf table (tableIn m) ls) (table-kept .run (tableIn m) ok ls),
           );
+      point = λ u r. whole-table .point (tableIn m) ok u ls r;
+      quiet = λ u r b o x k z. whole-table .point (tableIn m) ok u ls r b o .quiet x k (zero-accepted _ _ (told (Step u x)) .0 z);
       unnamed = λ u. tables.unnamed u m ls;
     }
 

@@ -1,6 +1,7 @@
 -- Demand 3 of calls: lists of steps and drives on one ring that is lent, and of steps on one tree, refused ones included, are runs. A start begins a
 -- new list; soundness and texts only read what is lent.
 use Prim.Native.Nat.{_*_, _-_, _≤_, ℕ}
+use mathlib.Core.Bool.{false}
 use mathlib.Core.List.{List, []}
 use mathlib.Core.Logic.{_↔_}
 use mathlib.Core.Path.{_≡_}
@@ -9,8 +10,11 @@ use Rattle.lent.specs.Table.{Eight, LentTable, askNumber, fieldsAt, tableIn, ta
 use Rattle.lent.specs.Tree.{LentTree, TreeStartedTo, lentTreeOf, treeOf, treeSoundNumber, treeStepNumber}
 use Rattle.refusal.specs.Table.{codeOf}
 use Rattle.runs.specs.Runs.{Accepts, Request, acceptedOf, runOf}
-use Rattle.table_rules.specs.Answers.{Ask, verdictOn}
+use Rattle.table_rules.specs.Answers.{Ask, Step, verdictOn}
 use Rattle.table_rules.specs.Runs.{naming, table}
+use Rattle.table_rules.specs.Table.{Started}
+use Rattle.table_runs.specs.Counts.{QuietIn, historyOf}
+use Rattle.table_runs.specs.WholeRun as tableRun
 use Rattle.ring_rules.specs.Driver as ringDrive
 use Rattle.ring_rules.specs.Rules as ringRules
 use Rattle.ring_rules.specs.Soundness as ringSound
@@ -66,12 +70,17 @@ pub record TreeCalls (t : treeState.State) (xs : List Request) : Type 0 where
   pub last :
       treeCounts.Announced t xs → (x : Request) → treeStepNumber (treeFieldsAfter (lentTreeOf t) xs) (x .kind) (x .i) (x .j) ≡ 4
 
--- After the starts and steps ls of any updates on the columns m of a table: they are a run of the table, of which table_runs says demand 3 for each update.
+-- After the starts and steps ls of any updates on the columns m of a table: they are a run of the table.
 pub record TableCalls (m : LentTable) (ls : List Ask) : Type 0 where
   pub there : tableIn (columnsAfter m ls) ≡ runOf table (tableIn m) ls
   -- each call tells the number of the answer that this run gives next
   pub told : (a : Ask) → askNumber (columnsAfter m ls) a ≡ codeOf (verdictOn (runOf table (tableIn m) ls) a)
   pub sound : tableSoundNumber (columnsAfter m ls) ≡ 1
+  -- demand 3 for update u: r stood there at its latest start, or in m where it is not started in ls; an announcement of u is told 0 only if u is quiet
+  pub point : (u : ℕ) (r : ringState.State) → historyOf u (tableIn m) ls .first ≡ Started r → r .closed ≡ false → tableRun.Point (tableIn m) u ls r
+  pub quiet :
+      (u : ℕ) (r : ringState.State) → historyOf u (tableIn m) ls .first ≡ Started r → r .closed ≡ false → (x : Request)
+      → ringCounts.kind x ≡ ringRules.Announce → askNumber (columnsAfter m ls) (Step u x) ≡ 0 → QuietIn r (historyOf u (tableIn m) ls .taken)
   -- every byte of an update that none of them names is as it was
   pub unnamed : (u : ℕ) → naming u ls ≡ [] → fieldsAt (columnsAfter m ls) u ≡ fieldsAt m u
 
