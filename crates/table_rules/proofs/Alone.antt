@@ -1,7 +1,8 @@
 -- An update goes its own way in a table, and two tables that agree on it answer it alike. Assumes nothing.
-use Prim.Native.Nat.{_<_, ℕ}
+use Prim.Native.Nat.{_<_, suc, zero, ℕ}
 use borrow.Author.Tests.{eqb-false, eqb-true, ne-eqb, not-true}
 use lib.Dec.{eqb}
+use lib.ListN.{take}
 use mathlib.Core.Bool.{Bool, _&&_, cond, false, not, true}
 use mathlib.Core.List.{List, [], _++_, _∷_}
 use mathlib.Core.Logic.{_⊎_, inl, inr, ⊎-elim}
@@ -135,3 +136,54 @@ not-disturbed t t′ ok ok′ h f u e ls ls′ q z z′ =
     let b′ = all-heard u ls′ t′ z′ in
     let hs : heard u t ls ≡ heard u t′ ls′ = b .0 ∙ q ∙ sym (b′ .0) in
     (sym (b .1) ∙ w .1 ∙ ap₂ (aloneAnswers (fixed t)) e hs ∙ sym (w′ .1) ∙ b′ .1, w .0 ∙ ap₂ (aloneRun (fixed t)) e hs ∙ sym (w′ .0))
+
+-- ---- up to the k-th request that names u
+
+module _ (u : ℕ) where
+  upTo : ℕ → List Ask → List Ask
+  upTo k [] = []
+  upTo zero (a ∷ ls) = []
+  upTo (suc k) (a ∷ ls) = a ∷ cond (eqb (names a) u) (upTo k ls) (upTo (suc k) ls)
+
+  upto-naming : (k : ℕ) (ls : List Ask) → naming u (upTo k ls) ≡ take k (naming u ls)
+  unfolding upTo
+  upto-naming zero [] = refl
+  upto-naming (suc k) [] = refl
+  upto-naming zero (a ∷ ls) = refl
+  upto-naming (suc k) (a ∷ ls) = go (eqb (names a) u) (upto-naming k ls) (upto-naming (suc k) ls)
+    where
+      go :
+          (b : Bool) → naming u (upTo k ls) ≡ take k (naming u ls) → naming u (upTo (suc k) ls) ≡ take (suc k) (naming u ls)
+          → cond b (a ∷ naming u (cond b (upTo k ls) (upTo (suc k) ls))) (naming u (cond b (upTo k ls) (upTo (suc k) ls)))
+          ≡ take (suc k) (cond b (a ∷ naming u ls) (naming u ls))
+      go true p q = ap (λ (l : List Ask). a ∷ l) p
+      go false p q = q
+
+  upto-answers : (k : ℕ) (ls : List Ask) (t : Table) → answersOf u t (upTo k ls) ≡ take k (answersOf u t ls)
+  unfolding upTo answersOf
+  upto-answers zero [] t = refl
+  upto-answers (suc k) [] t = refl
+  upto-answers zero (a ∷ ls) t = refl
+  upto-answers (suc k) (a ∷ ls) t = go (eqb (names a) u) (upto-answers k ls (nextTable t a)) (upto-answers (suc k) ls (nextTable t a))
+    where
+      go :
+          (b : Bool) → answersOf u (nextTable t a) (upTo k ls) ≡ take k (answersOf u (nextTable t a) ls)
+          → answersOf u (nextTable t a) (upTo (suc k) ls) ≡ take (suc k) (answersOf u (nextTable t a) ls)
+          → cond b (verdictOn t a ∷ answersOf u (nextTable t a) (cond b (upTo k ls) (upTo (suc k) ls)))
+          (answersOf u (nextTable t a) (cond b (upTo k ls) (upTo (suc k) ls)))
+          ≡ take (suc k) (cond b (verdictOn t a ∷ answersOf u (nextTable t a) ls) (answersOf u (nextTable t a) ls))
+      go true p q = ap (λ (l : List Verdict). verdictOn t a ∷ l) p
+      go false p q = q
+
+pub not-disturbed-until :
+    (t t′ : Table) → SoundTable t → SoundTable t′ → 0 < fixed t → fixed t ≡ fixed t′ → (u : ℕ) → slotAt t u ≡ slotAt t′ u
+    → (ls ls′ : List Ask) → naming u ls ≡ naming u ls′ → (k : ℕ)
+    → noNine (take k (answersOf u t ls)) ≡ true → noNine (take k (answersOf u t′ ls′)) ≡ true
+    → take k (answersOf u t ls) ≡ take k (answersOf u t′ ls′)
+not-disturbed-until t t′ ok ok′ h f u e ls ls′ q k z z′ =
+    let a = upto-answers u k ls t in
+    let a′ = upto-answers u k ls′ t′ in
+    sym a
+    ∙ not-disturbed t t′ ok ok′ h f u e (upTo u k ls) (upTo u k ls′) (upto-naming u k ls ∙ ap (take k) q ∙ sym (upto-naming u k ls′))
+    (ap noNine a ∙ z) (ap noNine a′ ∙ z′) .0
+    ∙ a′

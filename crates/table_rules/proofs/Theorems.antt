@@ -8,7 +8,7 @@ use Rattle.refusal.specs.Table.{settle}
 use Rattle.refusal.specs.declared.Verdict.{Verdict}
 use Rattle.refusal.specs.declared.Verdict.the-variants.{Accepted}
 use Rattle.runs.specs.Runs.{runOf}
-use Rattle.table_rules.proofs.Alone.{alone, not-disturbed}
+use Rattle.table_rules.proofs.Alone.{alone, not-disturbed, not-disturbed-until}
 use Rattle.table_rules.proofs.Keeps.{after-sends, after-sound, next-fixed, next-sound}
 use Rattle.table_rules.proofs.Limit.{limit-decides, limit-only, limit-rows}
 use Rattle.table_rules.proofs.Numbers.{node-count, none-fixed, past, start-accepted, start-fixed, start-flags, unknown-start, unknown-step, unsound-three}
@@ -87,4 +87,4 @@ isolation =
     record { alone = λ t ok h u ls. let w = alone u (fixed t) ls t ok refl h in record { slot = w .0; answers = w .1 } }
 
 pub non-interference : NonInterference
-non-interference = record { same = not-disturbed }
+non-interference = record { same = not-disturbed; until = not-disturbed-until }

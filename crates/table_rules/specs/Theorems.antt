@@ -1,5 +1,6 @@
 -- What is proved of the table; the proofs are in proofs/, put together in proofs/Theorems.antt.
 use Prim.Native.Nat.{_+_, _<_, _≤_, ℕ}
+use lib.ListN.{take}
 use mathlib.Core.Bool.{false, true}
 use mathlib.Core.List.{List}
 use mathlib.Core.Logic.{_↔_, _≢_, _⊎_}
@@ -99,10 +100,15 @@ pub record Isolation : Type 0 where
   pub alone : (t : Table) → SoundTable t → 0 < fixed t → (u : ℕ) (ls : List Ask) → GoesAlone t u ls
 
 -- Two sound tables with one fixed N that agree on u, and two lists whose requests naming u are the same: as long as neither run has
--- answered one of these with 9, u's answers are the same one by one and so is what stands at u. It is said of all lists, so of the parts of two
--- lists before the first 9. Where no N is fixed yet it does not hold: the others' starts then decide which N is 1.
+-- answered one of these with 9, u's answers are the same one by one and so is what stands at u; and their first k answers are, where these
+-- have no 9, whatever comes later. Where no N is fixed yet it does not hold: the others' starts then decide which N is 1.
 pub record NonInterference : Type 0 where
   pub same :
       (t t′ : Table) → SoundTable t → SoundTable t′ → 0 < fixed t → fixed t ≡ fixed t′ → (u : ℕ) → slotAt t u ≡ slotAt t′ u
       → (ls ls′ : List Ask) → naming u ls ≡ naming u ls′ → noNine (answersOf u t ls) ≡ true → noNine (answersOf u t′ ls′) ≡ true
       → (answersOf u t ls ≡ answersOf u t′ ls′) × (slotAt (runOf table t ls) u ≡ slotAt (runOf table t′ ls′) u)
+  pub until :
+      (t t′ : Table) → SoundTable t → SoundTable t′ → 0 < fixed t → fixed t ≡ fixed t′ → (u : ℕ) → slotAt t u ≡ slotAt t′ u
+      → (ls ls′ : List Ask) → naming u ls ≡ naming u ls′ → (k : ℕ)
+      → noNine (take k (answersOf u t ls)) ≡ true → noNine (take k (answersOf u t′ ls′)) ≡ true
+      → take k (answersOf u t ls) ≡ take k (answersOf u t′ ls′)
