@@ -4,19 +4,21 @@ use mathlib.Core.List.{List, [], _∷_}
 use mathlib.Core.Path.{_∙_, _≡_, ap, refl, subst, sym}
 use native.Mathlib.Omega.{arith}
 use Rattle.refusal.proofs.Table.{accepts, first-row, none-holds}
-use Rattle.refusal.specs.Table.{settle}
+use Rattle.refusal.specs.Table.{codeOf, settle}
 use Rattle.refusal.specs.declared.Verdict.{Verdict}
-use Rattle.refusal.specs.declared.Verdict.the-variants.{Accepted}
-use Rattle.runs.specs.Runs.{runOf}
+use Rattle.refusal.specs.declared.Verdict.the-variants.{Accepted, Refused}
+use Rattle.ring_rules.proofs.Start.{first-open, fits}
+use Rattle.ring_rules.specs.Start.{firstState}
+use Rattle.runs.specs.Runs.{acceptedOf, runOf}
 use Rattle.table_rules.proofs.Alone.{alone, not-disturbed, not-disturbed-until}
 use Rattle.table_rules.proofs.Keeps.{after-sends, after-sound, next-fixed, next-sound}
 use Rattle.table_rules.proofs.Limit.{limit-decides, limit-only, limit-rows}
 use Rattle.table_rules.proofs.Numbers.{node-count, none-fixed, past, start-accepted, start-fixed, start-flags, unknown-start, unknown-step, unsound-three}
-use Rattle.table_rules.proofs.Soundness.{fixed-n, table-true, true-table}
+use Rattle.table_rules.proofs.Soundness.{empty-fixed, empty-sound, fixed-n, table-true, true-table}
 use Rattle.table_rules.specs.Answers.{Ask, Start, Step, after, answerOn, nextTable, rowsOf, verdictOn}
-use Rattle.table_rules.specs.Runs.{table}
+use Rattle.table_rules.specs.Runs.{firstNodes, table}
 use Rattle.table_rules.specs.Soundness.{SoundTable}
-use Rattle.table_rules.specs.Table.{Table, fixed, sends}
+use Rattle.table_rules.specs.Table.{Table, emptyTable, fixed, sends}
 use Rattle.table_rules.specs.Theorems.{Isolation, LimitTogether, NonInterference, SendsChange, TableAnswered, TableKept, TableNumbers, TableTested}
 
 pub table-tested : TableTested
@@ -42,6 +44,25 @@ unfolding runOf
 run-fixed t h [] = refl
 run-fixed t h (a ∷ ls) = let e = next-fixed t a h in run-fixed (nextTable t a) (omega arith) ls ∙ e
 
+-- where no number of nodes is fixed, the first accepted request is a start
+pub run-first : (t : Table) → SoundTable t → fixed t ≡ 0 → (ls : List Ask) → fixed (runOf table t ls) ≡ firstNodes (acceptedOf table t ls)
+unfolding runOf acceptedOf firstState
+run-first t ok z [] = z
+run-first t ok z (a ∷ ls) = go a (verdictOn t a) refl (run-first t ok z ls)
+  where
+    go :
+        (b : Ask) (v : Verdict) → verdictOn t b ≡ v → fixed (runOf table t ls) ≡ firstNodes (acceptedOf table t ls)
+        → fixed (runOf table (settle v (after t b) t) ls)
+        ≡ firstNodes (settle v (b ∷ acceptedOf table (settle v (after t b) t) ls) (acceptedOf table (settle v (after t b) t) ls))
+    go b (Refused e) q ih = ih
+    go (Start u n flags) Accepted q ih =
+        let f = start-fixed t u n flags q in
+        let s = start-accepted t ok u n flags .0 q in
+        run-fixed (after t (Start u n flags)) (omega (arith, first-open n flags (fits n flags (s .2)) .sound .some-node)) ls ∙ f
+    go (Step u x) Accepted q ih =
+        let k = unknown-step t ok u x .1 (none-fixed t ok z u) in
+        absurd (omega (arith, ap codeOf q))
+
 pub table-kept : TableKept
 unfolding answerOn
 table-kept =
@@ -50,6 +71,7 @@ table-kept =
       any = next-sound;
       run = run-sound;
       fixed-run = λ t ok h ls. run-fixed t h ls;
+      fixed-first = run-first emptyTable empty-sound empty-fixed;
     }
 
 pub limit-together : LimitTogether

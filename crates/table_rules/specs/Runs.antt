@@ -16,6 +16,12 @@ use Rattle.table_rules.specs.Table.{Slot, Table}
 abbrev pub table : Machine Table Ask
 table = record { verdict = verdictOn; effect = after }
 
+-- the number of nodes of the first start in a list; 0 where there is none
+abbrev pub firstNodes : List Ask → ℕ
+firstNodes [] = 0
+firstNodes (Start u n flags ∷ acc) = n
+firstNodes (Step u x ∷ acc) = firstNodes acc
+
 -- ---- what is said of update u
 
 abbrev pub naming : ℕ → List Ask → List Ask

@@ -13,11 +13,11 @@ use Rattle.ring_rules.specs.Rules.{Kind, Send, guard, kindOf}
 use Rattle.ring_rules.specs.Start.{flagsTest, startVerdict}
 use Rattle.ring_rules.specs.State.{State}
 use Rattle.ring_rules.specs.Theorems.{Sending}
-use Rattle.runs.specs.Runs.{Request, runOf}
+use Rattle.runs.specs.Runs.{Request, acceptedOf, runOf}
 use Rattle.table_rules.specs.Answers.{Ask, Start, Step, after, allSpent, answerOn, isSend, rowsOf, updateRows, verdictOn}
-use Rattle.table_rules.specs.Runs.{aloneAnswers, aloneRun, answersOf, heard, naming, noNine, table, told}
+use Rattle.table_rules.specs.Runs.{aloneAnswers, aloneRun, answersOf, firstNodes, heard, naming, noNine, table, told}
 use Rattle.table_rules.specs.Soundness.{SoundTable, soundTableTest}
-use Rattle.table_rules.specs.Table.{NotStarted, Started, Table, fixed, sends, sendsOf, slotAt}
+use Rattle.table_rules.specs.Table.{NotStarted, Started, Table, emptyTable, fixed, sends, sendsOf, slotAt}
 
 -- The facts of soundness and the test that code computes agree.
 pub record TableTested : Type 0 where
@@ -38,6 +38,8 @@ pub record TableKept : Type 0 where
   pub run : (t : Table) → SoundTable t → (ls : List Ask) → SoundTable (runOf table t ls)
   -- once fixed, the number of nodes stays
   pub fixed-run : (t : Table) → SoundTable t → 0 < fixed t → (ls : List Ask) → fixed (runOf table t ls) ≡ fixed t
+  -- from the empty table it is that of the first accepted start
+  pub fixed-first : (ls : List Ask) → fixed (runOf table emptyTable ls) ≡ firstNodes (acceptedOf table emptyTable ls)
 
 -- Q-1: "another N is 1, checked after 13"; "it refuses an update number above 7, or a step on one not started, with 13, checked after 3". In a
 -- sound table, whatever else a request names.
