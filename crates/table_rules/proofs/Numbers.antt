@@ -177,8 +177,7 @@ module _ (t : Table) (ok : SoundTable t) where
     start-flags = (
       λ e.
           let w = two-met (not (ltb u 8)) (otherNodes t n) (not (ltb 0 n && leb n 96)) (not (flagsTest n flags)) (sym start-told ∙ e) in
-          let r = both _ _ (not-false _ (w .2)) in
-          (
+          let r = both _ _ (not-false _ (w .2)) in (
             ltb-true _ _ (not-false _ (w .0)),
             ltb-true _ _ (r .0),
             leb-true _ _ (r .1),
