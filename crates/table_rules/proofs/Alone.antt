@@ -176,11 +176,11 @@ module _ (u : ℕ) where
       go false p q = q
 
 pub not-disturbed-until :
-    (t t′ : Table) → SoundTable t → SoundTable t′ → 0 < fixed t → fixed t ≡ fixed t′ → (u : ℕ) → slotAt t u ≡ slotAt t′ u
+    (t t′ : Table) → SoundTable t → 0 < fixed t → SoundTable t′ → fixed t ≡ fixed t′ → (u : ℕ) → slotAt t u ≡ slotAt t′ u
     → (ls ls′ : List Ask) → naming u ls ≡ naming u ls′ → (k : ℕ)
     → noNine (take k (answersOf u t ls)) ≡ true → noNine (take k (answersOf u t′ ls′)) ≡ true
     → take k (answersOf u t ls) ≡ take k (answersOf u t′ ls′)
-not-disturbed-until t t′ ok ok′ h f u e ls ls′ q k z z′ =
+not-disturbed-until t t′ ok h ok′ f u e ls ls′ q k z z′ =
     let a = upto-answers u k ls t in
     let a′ = upto-answers u k ls′ t′ in
     sym a

@@ -110,7 +110,7 @@ pub record NonInterference : Type 0 where
       → (ls ls′ : List Ask) → naming u ls ≡ naming u ls′ → noNine (answersOf u t ls) ≡ true → noNine (answersOf u t′ ls′) ≡ true
       → (answersOf u t ls ≡ answersOf u t′ ls′) × (slotAt (runOf table t ls) u ≡ slotAt (runOf table t′ ls′) u)
   pub until :
-      (t t′ : Table) → SoundTable t → SoundTable t′ → 0 < fixed t → fixed t ≡ fixed t′ → (u : ℕ) → slotAt t u ≡ slotAt t′ u
+      (t t′ : Table) → SoundTable t → 0 < fixed t → SoundTable t′ → fixed t ≡ fixed t′ → (u : ℕ) → slotAt t u ≡ slotAt t′ u
       → (ls ls′ : List Ask) → naming u ls ≡ naming u ls′ → (k : ℕ)
       → noNine (take k (answersOf u t ls)) ≡ true → noNine (take k (answersOf u t′ ls′)) ≡ true
       → take k (answersOf u t ls) ≡ take k (answersOf u t′ ls′)
