@@ -60,9 +60,9 @@ fn spoiled(ring: Ring) -> Ring {
 fn main() {
     let first = told(busy().send(0, 1));
     let second = told(first.send(0, 1));
-    let third = told(second.take(1));
+    let third = told(second.take(1, 1));
     let fourth = told(third.send(1, 0));
-    let last = told(fourth.take(1));
+    let last = told(fourth.take(1, 1));
     counted(last.in_transit());
     counted(last.black_nodes());
     counted(spoiled(last).in_transit());
