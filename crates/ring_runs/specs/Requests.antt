@@ -9,8 +9,9 @@ use Rattle.ring_runs.specs.Counts.{ring}
 abbrev pub send : ℕ → ℕ → Request
 send i j = record { kind = 1; i = i; j = j }
 
-abbrev pub take : ℕ → Request
-take i = record { kind = 2; i = i; j = 0 }
+-- i takes n messages
+abbrev pub take : ℕ → ℕ → Request
+take i n = record { kind = 2; i = i; j = n }
 
 abbrev pub idle : ℕ → Request
 idle i = record { kind = 3; i = i; j = 0 }
