@@ -21,15 +21,15 @@ use Rattle.ring_rules.specs.Answers.{answerOf}
 use Rattle.ring_rules.specs.Rules.{Announce, Idle, Kind, Pass, Probe, Send, Take, Unknown}
 use Rattle.ring_rules.specs.Start.{firstState, startOf}
 use Rattle.ring_rules.specs.State.{State}
-use Rattle.ring_runs.proofs.Agreed.{other-kind}
+use Rattle.ring_runs.proofs.Agreed.{one-receipt, other-kind}
 use Rattle.ring_runs.proofs.Agreement as rings
 use Rattle.ring_runs.proofs.Steps.{detected-of}
 use Rattle.ring_runs.proofs.Trace.{run-n, run-sent}
-use Rattle.ring_runs.specs.Agreement.{Reachable, Started as InitBy, sendsMade, shown, shownAfter as shownAfterRing}
+use Rattle.ring_runs.specs.Agreement.{Reachable, Started as InitBy, nextsIn, nextsOf, sendsMade, shown, shownAfter as shownAfterRing}
 use Rattle.ring_runs.specs.Counts.{kind, ring, sending, sendsIn}
 use Rattle.ring_runs.specs.EWD998.{Next, Node, SendMsg, Vars, deactivate, environment, initiateProbe, passToken, recvMsg, sendMsg, system, terminationDetected}
 use Rattle.ring_runs.specs.Requests.{announce, idle, pass, probe, send, take}
-use Rattle.ring_runs.specs.View.{Action, is-deactivate, is-pass, is-probe, is-receive, is-send, varsOf}
+use Rattle.ring_runs.specs.View.{Action, InARow, is-deactivate, is-pass, is-probe, is-send, varsOf}
 use Rattle.runs.proofs.Runs.{run-of}
 use Rattle.runs.specs.Runs.{Accepts, Request, acceptedOf, next, runOf}
 use Rattle.table_rules.proofs.Keeps.{next-other, next-sound}
@@ -44,7 +44,7 @@ use Rattle.table_rules.specs.Table.{NotStarted, Slot, Started, Table, emptyTabl
 use Rattle.table_runs.proofs.Updates.{announce-accepts, ring-accepts, ring-next, start-begins, start-stands, table-accepts, told-of}
 use Rattle.table_runs.proofs.WholeRun.{latest}
 use Rattle.table_runs.specs.Agreement.{NextAnswered, OthersAlone, RunTo, RunsAgree, SendAllowed, StartsAgree, StepsAgree, at-limit, matched, ringAfter, shownAfter, someNode, stepsOn}
-use Rattle.table_runs.specs.Counts.{AcceptsOn, heardOf, startedOf}
+use Rattle.table_runs.specs.Counts.{AcceptsOn, heardOf, historyOf, startedOf}
 
 -- ---- the starts
 
@@ -116,7 +116,7 @@ module _ (t : Table) (ok : SoundTable t) (u : ℕ) (r : State) (at : slotAt t u 
     open-answered : (s : Vars (r .n)) → Next (someNode t ok u r at) (shown r) s → NextAnswered t ok u r at s
     open-answered s (system (initiateProbe a)) = answered probe s (is-probe a) (λ e. other-kind (sym e) refl)
     open-answered s (system (passToken i ne a)) = answered (pass (i .nr)) s (is-pass i ne a) (λ e. other-kind (sym e) refl)
-    open-answered s (environment (recvMsg i a)) = answered (take (i .nr)) s (is-receive i a) (λ e. other-kind (sym e) refl)
+    open-answered s (environment (recvMsg i a)) = answered (take (i .nr) 1) s (one-receipt i a) (λ e. other-kind (sym e) refl)
     open-answered s (environment (deactivate i a)) = answered (idle (i .nr)) s (is-deactivate i a) (λ e. other-kind (sym e) refl)
     open-answered s (environment (sendMsg i a)) = go (decLt (sends t) sendLimit)
       where
@@ -156,11 +156,17 @@ module _ (t : Table) (ok : SoundTable t) (u : ℕ) (r : State) (at : slotAt t u 
         accepted-is-next =
             λ x a.
             subst
-            (λ (s : Vars (r .n)). Next (someNode t ok u r at) (shown r) s ⊎ ((kind x ≡ Announce) × terminationDetected (someNode t ok u r at) (shown r) × (s ≡ shown r)))
+            (λ (s : Vars (r .n)).
+            InARow (Next (someNode t ok u r at)) (nextsOf (kind x) (x .j)) (shown r) s × (kind x ≡ Announce → terminationDetected (someNode t ok u r at) (shown r)))
             (sym (ring-shown x a))
             (rings.steps-agree r (ok .each u r at) .accepted-is-next (x .kind) (x .i) (x .j) (ring-accepts t ok u r at x a));
         refused-is-same = refused-same;
         next-is-answered = next-answered;
+        receipts-are-take =
+            λ i n s lo le x.
+            let w = rings.steps-agree r (ok .each u r at) .receipts-are-take i n s lo le x in
+            let a = table-accepts t ok u r at (take (i .nr) n) refl (w .0) in
+            (a, ring-shown (take (i .nr) n) a ∙ w .1);
         announce-is-detected =
             λ running.
             let w = rings.steps-agree r (ok .each u r at) .announce-is-detected running 0 0 in
@@ -192,6 +198,17 @@ module _ (t : Table) (ok : SoundTable t) (u : ℕ) (ls : List Ask) (e : startedO
       let size : w .n ≡ r .n = sym (ap (λ (s : State). s .n) (sym same) ∙ run-n (run-of ring first xs) ∙ first-n (w .n) (w .flags)) in
       subst (λ (n : ℕ). (h : 0 < n) → Reachable h (varsOf n r) (sendsMade r)) size
       (subst (λ (s : State). (h : 0 < w .n) → Reachable h (varsOf (w .n) s) (sendsMade s)) same reach)
+
+run-behaves :
+    (t : Table) → SoundTable t → (u : ℕ) (ls : List Ask) (r : State) → historyOf u t ls .first ≡ Started r → (h : 0 < r .n)
+    → (s : State) → slotAt (runOf table t ls) u ≡ Started s → InARow (Next h) (nextsIn (historyOf u t ls .taken)) (shown r) (varsOf (r .n) s)
+run-behaves t ok u ls r e h s at =
+    let f = told-of u t ok ls .some r e in
+    let xs = heardOf u t ls .steps in
+    let same : runOf ring r xs ≡ s = same-state (sym (f .stands) ∙ at) in
+    subst (λ (x : State). InARow (Next h) (nextsIn (historyOf u t ls .taken)) (shown r) (varsOf (r .n) x)) same
+    (subst (λ (acc : List Request). InARow (Next h) (nextsIn acc) (shown r) (varsOf (r .n) (runOf ring r xs))) (sym (f .accepted))
+    (rings.runs-agree h .run-is-behaviour r (f .sound) refl xs))
 
 -- no more requests are accepted than are made
 accepted-length : (r : State) (xs : List Request) → length (acceptedOf ring r xs) ≤ length xs
@@ -285,6 +302,7 @@ module _ (t : Table) (ok : SoundTable t) (u : ℕ) (hu : u < 8) {N : ℕ} (h : 0
 pub runs-agree : RunsAgree
 runs-agree =
     record {
+      run-is-behaviour = run-behaves;
       run-is-reachable = run-reachable;
       reachable-is-run = reachable-run;
       from-empty =

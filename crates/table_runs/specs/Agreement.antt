@@ -9,20 +9,20 @@ use mathlib.Core.Path.{_≡_}
 use Rattle.refusal.specs.Table.{sendLimit, settle}
 use Rattle.refusal.specs.declared.Refusal.the-variants.{SendLimit}
 use Rattle.refusal.specs.declared.Verdict.the-variants.{Accepted, Refused}
-use Rattle.ring_rules.specs.Rules.{Announce, Send}
+use Rattle.ring_rules.specs.Rules.{Announce, Send, takeLimit}
 use Rattle.ring_rules.specs.Start.{firstState}
 use Rattle.ring_rules.specs.State.{State}
-use Rattle.ring_runs.specs.Agreement.{Reachable, Started as InitBy, sendsMade, shown}
+use Rattle.ring_runs.specs.Agreement.{Reachable, Started as InitBy, nextsIn, nextsOf, sendsMade, shown}
 use Rattle.ring_runs.specs.Counts.{kind, ring}
-use Rattle.ring_runs.specs.EWD998.{Init, Next, Node, SendMsg, Vars, terminationDetected}
-use Rattle.ring_runs.specs.Requests.{announce, send}
-use Rattle.ring_runs.specs.View.{Action, varsOf}
+use Rattle.ring_runs.specs.EWD998.{Init, Next, Node, RecvMsg, SendMsg, Vars, terminationDetected}
+use Rattle.ring_runs.specs.Requests.{announce, send, take}
+use Rattle.ring_runs.specs.View.{Action, InARow, varsOf}
 use Rattle.runs.specs.Runs.{Request, acceptedOf, runOf}
 use Rattle.table_rules.specs.Answers.{Ask, Start, Step, answerOn, names, verdictOn}
 use Rattle.table_rules.specs.Runs.{table}
 use Rattle.table_rules.specs.Soundness.{SoundTable}
 use Rattle.table_rules.specs.Table.{Started, Table, emptyTable, fixed, sends, sendsOf, slotAt}
-use Rattle.table_runs.specs.Counts.{AcceptsOn, startedOf}
+use Rattle.table_runs.specs.Counts.{AcceptsOn, historyOf, startedOf}
 
 -- ---- the starts
 
@@ -76,13 +76,18 @@ module _ (t : Table) (ok : SoundTable t) (u : ℕ) (r : State) (at : slotAt t u 
     pub action-is-accepted :
         r .closed ≡ false → (x : Request) (s : Vars (r .n)) → Action someNode (shown r) s (kind x) (x .i) (x .j) → SendAllowed t x
         → AcceptsOn t u x × (shownAfter t u r x ≡ s)
-    -- so an accepted step of u is a step of Next, or the announcement, which changes nothing; a refused one changes nothing
+    -- so an accepted step of u is so many steps of Next in a row: a take as many as it takes, the announcement, made where terminationDetected
+    -- holds, none; a refused one changes nothing
     pub accepted-is-next :
         (x : Request) → AcceptsOn t u x
-        → Next someNode (shown r) (shownAfter t u r x) ⊎ ((kind x ≡ Announce) × terminationDetected someNode (shown r) × (shownAfter t u r x ≡ shown r))
+        → InARow (Next someNode) (nextsOf (kind x) (x .j)) (shown r) (shownAfter t u r x) × (kind x ≡ Announce → terminationDetected someNode (shown r))
     pub refused-is-same : (x : Request) → (AcceptsOn t u x → ⊥) → answerOn t (Step u x) .table ≡ t
     -- and every step of Next, from what stands at u, is answered
     pub next-is-answered : (s : Vars (r .n)) → Next someNode (shown r) s → NextAnswered s
+    -- receipts in a row of one node, as many as one take may take, are answered by one accepted take
+    pub receipts-are-take :
+        (i : Node (r .n)) (n : ℕ) (s : Vars (r .n)) → 0 < n → n ≤ takeLimit → InARow (RecvMsg someNode i) n (shown r) s
+        → AcceptsOn t u (take (i .nr) n) × (shownAfter t u r (take (i .nr) n) ≡ s)
     -- announce is terminationDetected
     pub announce-is-detected : r .closed ≡ false → AcceptsOn t u announce ↔ terminationDetected someNode (shown r)
 
@@ -112,6 +117,10 @@ pub record RunTo (t : Table) (u : ℕ) {N : ℕ} (s : Vars N) (m : ℕ) : Type 0
   pub there : varsOf N r ≡ s
 
 pub record RunsAgree : Type 0 where
+  -- the steps of u since its latest start, or since the first table, are a behaviour, each take of n stretched into n steps
+  pub run-is-behaviour :
+      (t : Table) → SoundTable t → (u : ℕ) (ls : List Ask) (r : State) → historyOf u t ls .first ≡ Started r → (h : 0 < r .n)
+      → (s : State) → slotAt (runOf table t ls) u ≡ Started s → InARow (Next h) (nextsIn (historyOf u t ls .taken)) (shown r) (varsOf (r .n) s)
   -- whatever the requests to any updates, accepted or refused: what stands at u, started in the run, is reachable
   pub run-is-reachable :
       (t : Table) → SoundTable t → (u : ℕ) (ls : List Ask) → startedOf u t ls ≡ true
