@@ -11,7 +11,7 @@ use mathlib.Core.Path.{_∙_, _≡_, ap, refl, subst, sym}
 use native.Mathlib.Decide.{ℕ-discrete}
 use native.Mathlib.Omega.{arith}
 use Rattle.color.specs.Colors.{blackened, isBlack, whitened}
-use Rattle.laws.proofs.Indicators.{ind, ind-le, ind-ne, lowered-at, raised-at, sum-raised}
+use Rattle.laws.proofs.Indicators.{ind, ind-le, ind-ne, raised-at, sum-raised}
 use Rattle.laws.proofs.Places.{all-at}
 use Rattle.laws.proofs.Tests.{both, false-true}
 use Rattle.laws.specs.Places.{allTo}
@@ -27,7 +27,7 @@ use Rattle.runs.proofs.Runs.{run-keeps, run-of}
 use Rattle.runs.specs.Runs.{Accepts, Request, acceptedOf, runOf}
 use Rattle.signed.specs.Integers.{_⊖_, isPositive, isSame, isZero}
 use Rattle.ring_runs.proofs.Agreement.{runs-agree, starts-agree}
-use Rattle.ring_runs.proofs.Trace.{may}
+use Rattle.ring_runs.proofs.Trace.{falls, may, rises}
 use Rattle.ring_runs.proofs.WholeRun.{whole-runs}
 use Rattle.ring_runs.specs.Counts.{Announced, Unannounced, activeBy, kind, ring, transitBy}
 use Rattle.instances.specs.Ring.{HandedIn, Instances, QuietPoint, Unreached, Worked, busyAnswers, busyMoves, busyRequests, busyRing, first, handed, moves, quietMoves, quietRing, requests, startFlags}
@@ -67,10 +67,10 @@ apart-kept r x p a = go (kind x) (x .i) (x .j) (may r x a .by)
           sum-raised (r .n) (r .sent) i in-sent hi,
           one-place i j ne,
         )
-    go Take i j (takes hi h) =
+    go Take i j (takes hi lo le h) =
         let in-received : i < length (r .received) = omega (arith, s .nodes, s .shape .received-places) in
         let in-pending : i < length (r .pending) = omega (arith, s .nodes, s .shape .pending-places) in
-        omega (arith, p, raised-at (r .received) i 0 in-received, lowered-at (r .pending) i 0 in-pending h)
+        omega (arith, p, rises (r .received) i j 0 in-received, falls (r .pending) i j 0 in-pending h)
     go Idle i j (idles hi act) = p
     go Probe i j (probes z ag) = p
     go Pass i j (passes hi lo e idle) = p

@@ -27,7 +27,7 @@ abbrev pub first : State
 first = startOf 3 startFlags .state
 
 abbrev pub requests : List Request
-requests = announce ∷ probe ∷ pass 2 ∷ send 1 1 ∷ send 1 2 ∷ take 2 ∷ take 2 ∷ idle 1 ∷ idle 2 ∷ []
+requests = announce ∷ probe ∷ pass 2 ∷ send 1 1 ∷ send 1 2 ∷ take 2 1 ∷ take 2 1 ∷ idle 1 ∷ idle 2 ∷ []
 
 abbrev pub answers : List ℕ
 answers = 8 ∷ 0 ∷ 0 ∷ 7 ∷ 0 ∷ 0 ∷ 8 ∷ 0 ∷ 0 ∷ []
@@ -101,7 +101,7 @@ busyRing =
 
 -- to a quiet point, with four requests that are refused
 abbrev pub busyRequests : List Request
-busyRequests = announce ∷ send 1 1 ∷ take 2 ∷ take 2 ∷ send 2 3 ∷ idle 1 ∷ idle 2 ∷ []
+busyRequests = announce ∷ send 1 1 ∷ take 2 1 ∷ take 2 1 ∷ send 2 3 ∷ idle 1 ∷ idle 2 ∷ []
 
 abbrev pub busyAnswers : List ℕ
 busyAnswers = 8 ∷ 7 ∷ 0 ∷ 8 ∷ 6 ∷ 0 ∷ 0 ∷ []

@@ -17,7 +17,6 @@ use Rattle.ring_rules.specs.State.{State, pendingAt}
 use Rattle.ring_rules.specs.Theorems.{Takeable}
 
 takeable : (r : State) (i n : ℕ) → mayTake r i n ≡ true → Takeable r i n
-unfolding mayTake
 takeable r i n e = let p = take-true n (pendingAt r i) e in record { some = p .0; few = p .1; enough = p .2 }
 
 -- what the answer's number says of the test

@@ -54,15 +54,19 @@ starts =
 abbrev pub keeps : Lent → ℕ → ℕ → ℕ → ℕ → Case
 keeps l kind i j k = lent-step l kind i j k l
 
--- kinds 1 to 6: send i j, take i, idle i, probe, pass i, announce
+-- kinds 1 to 6: send i j, take i j, idle i, probe, pass i, announce
 unfoldable pub steps : List Case
 steps =
     -- sent of 0 and pending of 2 rise
     lent-step handed 1 0 2 0 (lent 3 (three 1 0 0) (3 ∷ replicate 11 0) (three 6 6 7) (three 3 4 2) (three 2 1 7) 1 (0 ⊖ 4) 1 0)
     -- 257 is 1 in its lowest byte
     ∷ keeps handed 257 0 2 5
-    -- pending of 2 falls, received rises, 2 becomes active and black
-    ∷ lent-step handed 2 2 9 0 (lent 3 (three 1 0 1) (7 ∷ replicate 11 0) (three 5 6 7) (three 3 4 3) (three 2 1 5) 1 (0 ⊖ 4) 1 0)
+    -- pending of 2 falls by 4, received rises by 4, 2 becomes active and black
+    ∷ lent-step handed 2 2 4 0 (lent 3 (three 1 0 1) (7 ∷ replicate 11 0) (three 5 6 7) (three 3 4 6) (three 2 1 2) 1 (0 ⊖ 4) 1 0)
+    -- 4294967297 is 1 in its lowest 32 bits
+    ∷ keeps handed 2 2 0 8
+    ∷ keeps handed 2 2 7 8
+    ∷ keeps handed 2 2 4294967297 8
     ∷ lent-step handed 3 0 9 0 (busy (three 0 0 0) 3 1 (0 ⊖ 4) 1 0)
     -- q is 0, the token white and at 2, node 0 white
     ∷ lent-step (busy (three 1 0 0) 3 0 (0 ⊖ 4) 1 0) 4 9 9 0 (busy (three 1 0 0) 2 2 (0 ⊖ 0) 0 0)

@@ -17,7 +17,7 @@ abbrev pub startedBlack : ℕ → State
 startedBlack i = startOf 9 (set (replicate 9 0) i 2) .state
 
 abbrev pub afterTake : ℕ → State
-afterTake i = next ring (handed (nodes 9 ∷ sent 1 1 ∷ pending i 1 ∷ [])) (take i)
+afterTake i = next ring (handed (nodes 9 ∷ sent 1 1 ∷ pending i 1 ∷ [])) (take i 1)
 
 unfoldable pub numbers : List Case
 numbers =

@@ -156,16 +156,19 @@ outside =
     ring-run (rings.handed (rings.active 0 ∷ rings.active 1 ∷ rings.active 2 ∷ []))
     (ring.send 3 0 is 6
     ∷ ring.send 0 3 is 6
-    ∷ ring.take 3 is 6
+    ∷ ring.take 3 1 is 6
+    ∷ ring.take 3 0 is 6
     ∷ ring.idle 3 is 6
     ∷ ring.pass 3 is 6
     ∷ ring.send huge 0 is 6
     ∷ ring.send 0 huge is 6
-    ∷ ring.take huge is 6
+    ∷ ring.take huge 1 is 6
     ∷ ring.idle huge is 6
     ∷ ring.pass huge is 6
     ∷ ring.send 0 2 is 0
-    ∷ request 2 2 huge is 0
+    ∷ ring.take 2 3 is 8
+    ∷ ring.take 2 huge is 8
+    ∷ ring.take 2 1 is 0
     ∷ request 3 2 huge is 0
     ∷ request 4 huge huge is 0
     ∷ request 5 2 huge is 0

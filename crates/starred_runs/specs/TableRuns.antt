@@ -1,4 +1,4 @@
--- Document 01, "Runs to check".
+-- Document 01, "Runs to check", and a take of several.
 use Prim.Native.Nat.{ℕ}
 use lib.ListN.{replicate}
 use mathlib.Core.List.{List, [], _∷_}
@@ -21,7 +21,11 @@ treeOf n root = treeStart.startOf n root .state
 
 -- the requests of the second run
 abbrev pub second : List Request
-second = ring.probe ∷ ring.pass 2 ∷ ring.send 1 2 ∷ ring.take 2 ∷ ring.idle 1 ∷ ring.idle 2 ∷ []
+second = ring.probe ∷ ring.pass 2 ∷ ring.send 1 2 ∷ ring.take 2 1 ∷ ring.idle 1 ∷ ring.idle 2 ∷ []
+
+-- the same with three messages, taken at once
+abbrev pub three : List Request
+three = ring.probe ∷ ring.pass 2 ∷ ring.send 1 2 ∷ ring.send 1 2 ∷ ring.send 1 2 ∷ ring.take 2 3 ∷ ring.idle 1 ∷ ring.idle 2 ∷ []
 
 unfoldable pub runs : List Case
 runs =
@@ -40,8 +44,23 @@ runs =
     -- "(ring 3 (active 1) (black)), probe, pass 2, send 1 2, take 2, idle 1, idle 2: quiet at holder 1, then 7 moves."
     ∷ holder-after (ringOf 3 (0 ∷ 1 ∷ 0 ∷ [])) second 1
     ∷ quiet-then (ringOf 3 (0 ∷ 1 ∷ 0 ∷ [])) second 7
+    -- Document 02, Q-2: a take of three, none of which a take of four, of none or of 1,001 takes
+    ∷ quiet-then (ringOf 3 (0 ∷ 1 ∷ 0 ∷ [])) three 7
+    ∷ ring-run (ringOf 3 (0 ∷ 1 ∷ 0 ∷ []))
+    (ring.send 1 2 is 0
+    ∷ ring.send 1 2 is 0
+    ∷ ring.send 1 2 is 0
+    ∷ ring.take 2 4 is 8
+    ∷ ring.take 2 0 is 8
+    ∷ ring.take 2 1001 is 8
+    ∷ ring.take 2 3 is 0
+    ∷ ring.take 2 1 is 8
+    ∷ [])
+    -- the most that one take takes
+    ∷ ring-run (rings.handed (rings.sent 0 2002 ∷ rings.pending 1 2002 ∷ []))
+    (ring.take 1 1001 is 8 ∷ ring.take 1 1000 is 0 ∷ ring.take 1 1000 is 0 ∷ ring.take 1 3 is 8 ∷ ring.take 1 2 is 0 ∷ [])
     -- "(ring 3 (active 0 2) (black)), probe, send 2 0, take 0, idle 0, idle 2: then 5 moves."
-    ∷ quiet-then (ringOf 3 (1 ∷ 0 ∷ 1 ∷ [])) (ring.probe ∷ ring.send 2 0 ∷ ring.take 0 ∷ ring.idle 0 ∷ ring.idle 2 ∷ []) 5
+    ∷ quiet-then (ringOf 3 (1 ∷ 0 ∷ 1 ∷ [])) (ring.probe ∷ ring.send 2 0 ∷ ring.take 0 1 ∷ ring.idle 0 ∷ ring.idle 2 ∷ []) 5
     -- "N = 1, idle: one probe, then announce."
     ∷ ring-run (ringOf 1 (0 ∷ [])) (ring.announce is 8 ∷ ring.probe is 0 ∷ ring.announce is 0 ∷ [])
     ∷ quiet-then (ringOf 1 (0 ∷ [])) [] 1
@@ -70,14 +89,14 @@ runs =
     ∷ quiet-with (treeOf 3 0) (tree.send 0 1 ∷ tree.take 1 0 ∷ tree.idle 0 ∷ tree.idle 1 ∷ tree.leave 1 ∷ tree.ack 0 ∷ []) 0 0
     ∷ tree-run (treeOf 1 0) (tree.idle 0 is 0 ∷ tree.announce is 0 ∷ tree.idle 0 is 4 ∷ tree.announce is 4 ∷ [])
     -- "take on pending 0: 8. send 2 2 by an idle board: 7."
-    ∷ ring-run (ringOf 3 (0 ∷ 0 ∷ 0 ∷ [])) (ring.take 0 is 8 ∷ ring.send 2 2 is 7 ∷ [])
+    ∷ ring-run (ringOf 3 (0 ∷ 0 ∷ 0 ∷ [])) (ring.take 0 1 is 8 ∷ ring.send 2 2 is 7 ∷ [])
     ∷ tree-run (treeOf 3 0) (tree.take 1 0 is 8 ∷ tree.send 2 2 is 7 ∷ [])
     -- "Driver on the first start with M = 3: spent, 3 moves; M = 4: conclusive, 4."
     ∷ drives (ringOf 2 (0 ∷ 2 ∷ [])) 3 spent 3
     ∷ drives (ringOf 2 (0 ∷ 2 ∷ [])) 4 conclusive 4
     -- "By calls, on a sound state with 999,999 accepted sends: one more is accepted; the next: 9." (And takes never meet it.)
     ∷ ring-run (rings.handed (rings.active 0 ∷ rings.sent 0 999999 ∷ rings.received 1 999999 ∷ []))
-    (ring.send 0 1 is 0 ∷ ring.send 0 1 is 9 ∷ ring.take 1 is 0 ∷ ring.send 1 0 is 9 ∷ [])
+    (ring.send 0 1 is 0 ∷ ring.send 0 1 is 9 ∷ ring.take 1 1 is 0 ∷ ring.send 1 0 is 9 ∷ [])
     ∷ tree-run (trees.handed (trees.sends 999999 ∷ []))
     (tree.send 0 1 is 0 ∷ tree.send 0 1 is 9 ∷ tree.take 1 0 is 0 ∷ tree.send 1 0 is 9 ∷ [])
     ∷ []
