@@ -3,7 +3,7 @@ use mathlib.Core.Path.{_≡_, refl, sym, ap, _∙_}
 use mathlib.Core.Bool.{_&&_, Bool, cond, false, true}
 use mathlib.Core.Logic.{⊎-elim}
 use mathlib.Core.List.{List, [], _∷_, _++_, append-assoc}
-use Prim.Native.Nat.{ℕ, _+_, _≤_, _<_}
+use Prim.Native.Nat.{ℕ, zero, suc, _+_, _≤_, _<_}
 use native.Mathlib.Omega.{arith}
 use lib.ListN.{length, getD, drop, length-drop, length-append, drop-of-length-le, List·getD-eq-default}
 use lib.Dec.{eqb}
@@ -18,9 +18,10 @@ use Rattle.decimal.proofs.Cases.{split, in-text, rest, take-head}
 use Rattle.decimal.proofs.Words.{word-sound, word-back, word-in}
 use Rattle.decimal.proofs.Decimal.{decimal-five}
 use Rattle.decimal.proofs.Numbers.{no-number, short-found, short-sound}
+use Rattle.forms.specs.declared.Args.{Args}
 use Rattle.forms.specs.declared.Args.the-variants.{Found, Bad}
 use Rattle.forms.specs.Form.{Small}
-use Rattle.forms.specs.Read.{spacedOf, closedOf, oneOf, secondOf, twoOf, Arity, none, one, two, argsOf}
+use Rattle.forms.specs.Read.{spacedOf, closedOf, oneOf, secondOf, twoOf, raised, eitherOf, Arity, none, one, two, oneOrTwo, argsOf}
 
 -- 1. a byte, and a space and a number
 pub byte-word : (s : List ℕ) (at b : ℕ) → 0 < b → starts (b ∷ []) (drop at s) ≡ eqb (getD s at 0) b
@@ -61,21 +62,33 @@ spaced-found s at n u h p k =
 abbrev pub closing : List ℕ
 closing = bytes ")"
 
+abbrev oneText : ℕ → List ℕ
+oneText i = bytes " " ++ (decimal i ++ closing)
+
+abbrev twoText : ℕ → ℕ → List ℕ
+twoText i j = bytes " " ++ (decimal i ++ oneText j)
+
 abbrev pub argsText : Arity → ℕ → ℕ → List ℕ
 argsText none i j = closing
-argsText one i j = bytes " " ++ (decimal i ++ closing)
-argsText two i j = bytes " " ++ (decimal i ++ (bytes " " ++ (decimal j ++ closing)))
+argsText one i j = oneText i
+argsText two i j = twoText i j
+argsText oneOrTwo i zero = oneText i
+argsText oneOrTwo i (suc k) = twoText i k
 
--- numbers of at most five digits, and 0 for those that are not there
+-- numbers of at most five digits, and 0 for those that are not there; where the second may be missing, it is one more than what is written
 abbrev pub SmallArgs : Arity → ℕ → ℕ → Type 0
 SmallArgs none i j = (i ≡ 0) × (j ≡ 0)
 SmallArgs one i j = Small i × (j ≡ 0)
 SmallArgs two i j = Small i × Small j
+SmallArgs oneOrTwo i zero = Small i
+SmallArgs oneOrTwo i (suc k) = Small i × Small k
 
 pub args-short : (c : Arity) (i j : ℕ) → SmallArgs c i j → length (argsText c i j) ≤ 14
 args-short none i j h = omega arith
 args-short one i j h = simp length-append (omega (arith, decimal-five i (h .0)))
 args-short two i j h = simp length-append (omega (arith, decimal-five i (h .0), decimal-five j (h .1)))
+args-short oneOrTwo i zero h = simp length-append (omega (arith, decimal-five i h))
+args-short oneOrTwo i (suc k) h = simp length-append (omega (arith, decimal-five i (h .0), decimal-five k (h .1)))
 
 -- 3. what is found stands there
 abbrev Standing : List ℕ → ℕ → List ℕ → ℕ → Type 0
@@ -134,17 +147,34 @@ two-sound s at (Value n p) q i j e h =
     let small : i ≤ 99999 = omega (arith, r .1, c .0) in
     ((rw (c .0) at t, c .1 .1), (small, c .2))
 
+either-sound : (s : List ℕ) (at : ℕ) (a b : Args) → oneOf s (spacedOf s at) ≡ a → twoOf s (spacedOf s at) ≡ b
+    → (i j e : ℕ) → eitherOf a b ≡ Found i j e → Standing s at (argsText oneOrTwo i j) e × SmallArgs oneOrTwo i j
+either-sound s at (Found n z d) b p q i zero e h =
+    let r = one-sound s at (spacedOf s at) refl i 0 e (p ∙ h) in
+    (r .0, r .1 .0)
+either-sound s at (Found n z d) b p q i (suc k) e h =
+    let r = one-sound s at (spacedOf s at) refl i (suc k) e (p ∙ h) in
+    absurd (let y : ⊥ = omega (arith, r .1 .1) in y)
+either-sound s at Bad Bad p q i j e h = no-args i j e h
+either-sound s at Bad (Found n k d) p q i zero e h = absurd (let z : suc k ≡ 0 = cc in let y : ⊥ = omega arith in y)
+either-sound s at Bad (Found n k d) p q i (suc j) e h =
+    let x : Found n k d ≡ Found i j e = cc in
+    two-sound s at (spacedOf s at) refl i j e (q ∙ x)
+
 args-standing : (c : Arity) (s : List ℕ) (at i j e : ℕ) → argsOf c s at ≡ Found i j e → Standing s at (argsText c i j) e × SmallArgs c i j
 args-standing none s at i j e h =
     let c = closed-sound s at 0 0 i j e h in
     (c .2, (sym (c .0), sym (c .1)))
 args-standing one s at i j e h = one-sound s at (spacedOf s at) refl i j e h
 args-standing two s at i j e h = two-sound s at (spacedOf s at) refl i j e h
+args-standing oneOrTwo s at i j e h = either-sound s at (oneOf s (spacedOf s at)) (twoOf s (spacedOf s at)) refl refl i j e h
 
 args-some : (c : Arity) (i j : ℕ) → 0 < length (argsText c i j)
 args-some none i j = omega arith
 args-some one i j = omega arith
 args-some two i j = omega arith
+args-some oneOrTwo i zero = omega arith
+args-some oneOrTwo i (suc k) = omega arith
 
 -- where a text that is not empty ends
 pub place : (s t : List ℕ) (at e : ℕ) → drop at s ≡ t ++ drop e s → e ≤ length s → 0 < length t → e ≡ at + length t
@@ -171,21 +201,48 @@ closed-found : (s : List ℕ) (at i j : ℕ) (u : List ℕ) → drop at s ≡ cl
 unfolding closedOf
 closed-found s at i j u h = rw (word-back s at closing u h)
 
+one-found : (s : List ℕ) (at i : ℕ) (u : List ℕ) → Small i → drop at s ≡ oneText i ++ u
+    → oneOf s (spacedOf s at) ≡ Found i 0 (at + length (oneText i))
+unfolding oneOf
+one-found s at i u h p =
+    let q : drop at s ≡ bytes " " ++ (decimal i ++ (closing ++ u)) = p ∙ ap (λ (l : List ℕ). 32 ∷ l) (append-assoc (decimal i) closing u) in
+    let f = spaced-found s at i (closing ++ u) h q refl in
+    let e : at + 1 + length (decimal i) + 1 ≡ at + length (oneText i) = simp length-append (omega arith) in
+    rw (f .0) (closed-found s (at + 1 + length (decimal i)) i 0 u (f .1) ∙ ap (Found i 0) e)
+
+module _ (s : List ℕ) (at i j : ℕ) (u : List ℕ) (h : Small i × Small j) (p : drop at s ≡ twoText i j ++ u) where
+  -- the first number, and what follows it
+  first-found : (spacedOf s at ≡ Value i (at + 1 + length (decimal i))) × (drop (at + 1 + length (decimal i)) s ≡ oneText j ++ u)
+  first-found =
+      spaced-found s at i (oneText j ++ u) (h .0) (p ∙ ap (λ (l : List ℕ). 32 ∷ l) (append-assoc (decimal i) (oneText j) u)) refl
+
+  two-found : twoOf s (spacedOf s at) ≡ Found i j (at + length (twoText i j))
+  unfolding secondOf twoOf
+  two-found =
+      let a = at + 1 + length (decimal i) in
+      let r : drop a s ≡ bytes " " ++ (decimal j ++ (closing ++ u)) = first-found .1 ∙ ap (λ (l : List ℕ). 32 ∷ l) (append-assoc (decimal j) closing u) in
+      let g = spaced-found s a j (closing ++ u) (h .1) r refl in
+      let e : a + 1 + length (decimal j) + 1 ≡ at + length (twoText i j) = simp length-append (omega arith) in
+      rw (first-found .0, g .0) (closed-found s (a + 1 + length (decimal j)) i j u (g .1) ∙ ap (Found i j) e)
+
+  -- two numbers are not one
+  one-off : oneOf s (spacedOf s at) ≡ Bad
+  unfolding oneOf closedOf starts
+  one-off = rw (first-found .0, first-found .1)
+
 pub args-found : (c : Arity) (s : List ℕ) (at i j : ℕ) (u : List ℕ) → SmallArgs c i j → drop at s ≡ argsText c i j ++ u
     → argsOf c s at ≡ Found i j (at + length (argsText c i j))
-unfolding oneOf secondOf twoOf
 args-found none s at i j u h p = rw (h .0, h .1) (closed-found s at 0 0 u p)
-args-found one s at i j u h p =
-    let q : drop at s ≡ bytes " " ++ (decimal i ++ (closing ++ u)) = p ∙ ap (λ (l : List ℕ). 32 ∷ l) (append-assoc (decimal i) closing u) in
-    let f = spaced-found s at i (closing ++ u) (h .0) q refl in
-    let e : at + 1 + length (decimal i) + 1 ≡ at + length (argsText one i j) = simp length-append (omega arith) in
-    rw (f .0, h .1) (closed-found s (at + 1 + length (decimal i)) i 0 u (f .1) ∙ ap (Found i 0) e)
-args-found two s at i j u h p =
-    let v = bytes " " ++ (decimal j ++ closing) in
-    let q : drop at s ≡ bytes " " ++ (decimal i ++ (v ++ u)) = p ∙ ap (λ (l : List ℕ). 32 ∷ l) (append-assoc (decimal i) v u) in
-    let f = spaced-found s at i (v ++ u) (h .0) q refl in
-    let a = at + 1 + length (decimal i) in
-    let r : drop a s ≡ bytes " " ++ (decimal j ++ (closing ++ u)) = f .1 ∙ ap (λ (l : List ℕ). 32 ∷ l) (append-assoc (decimal j) closing u) in
-    let g = spaced-found s a j (closing ++ u) (h .1) r refl in
-    let e : a + 1 + length (decimal j) + 1 ≡ at + length (argsText two i j) = simp length-append (omega arith) in
-    rw (f .0, g .0) (closed-found s (a + 1 + length (decimal j)) i j u (g .1) ∙ ap (Found i j) e)
+args-found one s at i j u h p = rw (h .1) (one-found s at i u (h .0) p)
+args-found two s at i j u h p = two-found s at i j u h p
+args-found oneOrTwo s at i zero u h p = rw (one-found s at i u h p)
+args-found oneOrTwo s at i (suc k) u h p = rw (one-off s at i k u h p, two-found s at i k u h p)
+
+-- the second number one more, of a form that is closed
+pub closed-raised : (s : List ℕ) (at i j : ℕ) → raised (closedOf s at i j) ≡ closedOf s at i (suc j)
+unfolding closedOf
+closed-raised s at i j = by (starts closing (drop at s))
+  where
+    by : (t : Bool) → raised (cond t (Found i j (at + 1)) Bad) ≡ cond t (Found i (suc j) (at + 1)) Bad
+    by true = refl
+    by false = refl

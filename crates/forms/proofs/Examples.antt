@@ -3,7 +3,7 @@ use mathlib.Core.Path.{_≡_, refl}
 use mathlib.Core.List.{List, [], _∷_, map}
 use Rattle.decimal.specs.Bytes.{bytes}
 use Rattle.decimal.specs.Text.{digits, decimal}
-use Rattle.forms.specs.Form.{Form, bareRing, ringWith, treeOf, send, takeOne, takeFrom, idle, probe, pass, ack, leave, announce, update, formText}
+use Rattle.forms.specs.Form.{Form, bareRing, ringWith, treeOf, send, takeOne, takeWith, idle, probe, pass, ack, leave, announce, update, formText}
 
 abbrev shown : List Form
 shown =
@@ -16,14 +16,16 @@ shown =
     ∷ probe
     ∷ pass 1
     ∷ announce
-    ∷ takeFrom 1 0
+    ∷ takeWith 1 0
     ∷ ack 0
     ∷ leave 1
     ∷ ringWith 3 (0 ∷ 2 ∷ []) []
     ∷ send 10 99999
+    ∷ takeWith 2 5
     ∷ update 2 (send 0 3)
     ∷ update 2 (bareRing 4)
     ∷ update 7 (ringWith 4 (0 ∷ []) [])
+    ∷ update 0 (takeWith 2 5)
     ∷ []
 
 pub lines-shown : map formText shown
@@ -41,9 +43,11 @@ pub lines-shown : map formText shown
     ∷ bytes "(leave 1)\n"
     ∷ bytes "(ring 3 (active 0 2) (black))\n"
     ∷ bytes "(send 10 99999)\n"
+    ∷ bytes "(take 2 5)\n"
     ∷ bytes "(update 2 (send 0 3))\n"
     ∷ bytes "(update 2 (ring 4))\n"
     ∷ bytes "(update 7 (ring 4 (active 0) (black)))\n"
+    ∷ bytes "(update 0 (take 2 5))\n"
     ∷ [])
 unfolding decimal digits
 lines-shown = refl

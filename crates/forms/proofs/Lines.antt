@@ -12,7 +12,7 @@ use borrow.Author.Tests.{ne-eqb}
 use Rattle.decimal.specs.Bytes.{bytes}
 use Rattle.decimal.specs.Text.{decimal}
 use Rattle.decimal.proofs.Numbers.{Digits, decimal-digits, digit-low}
-use Rattle.forms.specs.Form.{Form, bareRing, ringWith, treeOf, send, takeOne, takeFrom, idle, probe, pass, ack, leave, announce, update, spacedNumbers, written, formText, Says, line, SaysAt}
+use Rattle.forms.specs.Form.{Form, bareRing, ringWith, treeOf, send, takeOne, takeWith, idle, probe, pass, ack, leave, announce, update, spacedNumbers, written, formText, Says, line, SaysAt}
 
 line-digits : (d l : List ℕ) → Digits d → line (d ++ l) ≡ d ++ line l
 unfolding line
@@ -58,7 +58,7 @@ written-line (send i j) u =
     ap (λ (l : List ℕ). bytes "(send " ++ l)
     (after i _ u (ap (λ (l : List ℕ). bytes " " ++ l) (after j (bytes ")") u refl)))
 written-line (takeOne i) u = ap (λ (l : List ℕ). bytes "(take " ++ l) (after i (bytes ")") u refl)
-written-line (takeFrom i k) u =
+written-line (takeWith i k) u =
     ap (λ (l : List ℕ). bytes "(take " ++ l)
     (after i _ u (ap (λ (l : List ℕ). bytes " " ++ l) (after k (bytes ")") u refl)))
 written-line (idle i) u = ap (λ (l : List ℕ). bytes "(idle " ++ l) (after i (bytes ")") u refl)
@@ -95,7 +95,7 @@ written-some (ringWith n active black) = omega arith
 written-some (treeOf n root) = omega arith
 written-some (send i j) = omega arith
 written-some (takeOne i) = omega arith
-written-some (takeFrom i k) = omega arith
+written-some (takeWith i k) = omega arith
 written-some (idle i) = omega arith
 written-some probe = omega arith
 written-some (pass i) = omega arith

@@ -2,8 +2,8 @@
 use mathlib.Core.Path.{_≡_, refl, sym, ap}
 use mathlib.Core.Bool.{cond}
 use mathlib.Core.Logic.{_↔_}
-use mathlib.Core.List.{List}
-use Prim.Native.Nat.{ℕ, _+_, _≤_, _<_}
+use mathlib.Core.List.{List, _++_}
+use Prim.Native.Nat.{ℕ, zero, suc, _+_, _≤_, _<_}
 use native.Mathlib.Omega.{arith}
 use lib.ListN.{length, drop}
 use Rattle.decimal.specs.Bytes.{bytes}
@@ -18,18 +18,27 @@ use Rattle.forms.specs.declared.TreeStep.{TreeStep}
 use Rattle.forms.specs.declared.TreeStep.the-variants as tree
 use Rattle.forms.specs.declared.TreeLine.{TreeLine}
 use Rattle.forms.specs.declared.TreeLine.the-variants as treeLine
-use Rattle.forms.specs.Form.{formText, SmallForm, Says, line, ringForm, treeForm}
-use Rattle.forms.specs.Read.{none, one, two, Read, read, other, madeOf, shape, readBy, ringKind, ringShapes, treeKind, treeShapes, ringLineOf, treeLineOf, lined, ringAt, treeAt}
+use Rattle.forms.specs.Form.{written, formText, SmallForm, Says, line, ringForm, treeForm}
+use Rattle.forms.specs.Read.{none, one, two, oneOrTwo, Read, read, other, madeOf, shape, readBy, ringTake, ringKind, ringShapes, treeKind, treeShapes, ringLineOf, treeLineOf, lined, ringAt, treeAt}
 use Rattle.forms.specs.Exact.{RingRead, TreeRead}
+use Rattle.forms.proofs.Arguments.{argsText, SmallArgs}
 use Rattle.forms.proofs.Reading.{Reader, line-other, line-once}
 use Rattle.forms.proofs.Shapes.{here, there, Spelled, Entry, stepBytes, table-reader, table-short, answer-exact, answer-told, answer-line, answer-inside}
 
 -- the ring
+take-spelled : (i j : ℕ) → written (ringForm (ringTake i j)) ≡ bytes "(take" ++ argsText oneOrTwo i j
+take-spelled i zero = refl
+take-spelled i (suc n) = refl
+
+take-fits : (i j : ℕ) → SmallArgs oneOrTwo i j → SmallForm (ringForm (ringTake i j))
+take-fits i zero h = h
+take-fits i (suc n) h = h
+
 ring-spells : Spelled ringForm ringShapes
 ring-spells = (
   record { short = omega arith; spelled = λ i j h. refl; fits = λ i j h. h },
   (
-    record { short = omega arith; spelled = λ i j h. refl; fits = λ i j h. h .0 },
+    record { short = omega arith; spelled = λ i j h. take-spelled i j; fits = take-fits },
     (
       record { short = omega arith; spelled = λ i j h. refl; fits = λ i j h. h .0 },
       (
@@ -55,13 +64,21 @@ ring-entry (ring.Send i j) = record {
   makes = refl;
   needs = λ h. h;
 }
-ring-entry (ring.Take i) = record {
-  of = shape (bytes "(take") one (ringKind 2);
+ring-entry (ring.TakeOne i) = record {
+  of = shape (bytes "(take") oneOrTwo (ringKind 2);
   among = there here;
   first = i;
   second = 0;
   makes = refl;
-  needs = λ h. (h, refl);
+  needs = λ h. h;
+}
+ring-entry (ring.Take i n) = record {
+  of = shape (bytes "(take") oneOrTwo (ringKind 2);
+  among = there here;
+  first = i;
+  second = suc n;
+  makes = refl;
+  needs = λ h. h;
 }
 ring-entry (ring.Idle i) = record {
   of = shape (bytes "(idle") one (ringKind 3);

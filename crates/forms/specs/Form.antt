@@ -14,7 +14,8 @@ use Rattle.forms.specs.declared.TreeStep.{TreeStep}
 use Rattle.forms.specs.declared.TreeStep.the-variants as tree
 
 -- "First line: `(ring 2 (active) (black 1))`, `(ring 2)` or `(tree 3 (root 0))`. A ring line has both lists or neither": the first three.
--- "Then ring steps .. or tree steps": `takeOne` is the ring's take, `takeFrom` the tree's.
+-- "Then ring steps .. or tree steps": `takeOne i` is the ring's, `(take i)`. `takeWith i k` is `(take i k)`: on the ring i takes k messages, on the
+-- tree one from k. Document 02, Q-2: "In the log `(take 2 5)` is new and `(take 2)` means one."
 -- Document 02, Q-1: "`(update 2 (send 0 3))`, a start `(update 2 (ring 4))`": `update` is a form inside the number of its update.
 pub data Form : Type 0 where
   bareRing : (n : ℕ) → Form
@@ -22,7 +23,7 @@ pub data Form : Type 0 where
   treeOf : (n root : ℕ) → Form
   send : (i j : ℕ) → Form
   takeOne : (i : ℕ) → Form
-  takeFrom : (i k : ℕ) → Form
+  takeWith : (i k : ℕ) → Form
   idle : (i : ℕ) → Form
   probe : Form
   pass : (i : ℕ) → Form
@@ -44,7 +45,7 @@ written (ringWith n active black) =
 written (treeOf n root) = bytes "(tree " ++ (decimal n ++ (bytes " (root " ++ (decimal root ++ bytes "))")))
 written (send i j) = bytes "(send " ++ (decimal i ++ (bytes " " ++ (decimal j ++ bytes ")")))
 written (takeOne i) = bytes "(take " ++ (decimal i ++ bytes ")")
-written (takeFrom i k) = bytes "(take " ++ (decimal i ++ (bytes " " ++ (decimal k ++ bytes ")")))
+written (takeWith i k) = bytes "(take " ++ (decimal i ++ (bytes " " ++ (decimal k ++ bytes ")")))
 written (idle i) = bytes "(idle " ++ (decimal i ++ bytes ")")
 written probe = bytes "(probe)"
 written (pass i) = bytes "(pass " ++ (decimal i ++ bytes ")")
@@ -72,7 +73,7 @@ SmallForm (ringWith n active black) = Small n × Ascending 0 active × Ascending
 SmallForm (treeOf n root) = Small n × Small root
 SmallForm (send i j) = Small i × Small j
 SmallForm (takeOne i) = Small i
-SmallForm (takeFrom i k) = Small i × Small k
+SmallForm (takeWith i k) = Small i × Small k
 SmallForm (idle i) = Small i
 SmallForm probe = Unit {0}
 SmallForm (pass i) = Small i
@@ -104,7 +105,8 @@ SaysAt s at f e = Says (line (drop at s)) f × (e ≡ at + length (formText f))
 -- the forms of the ring's steps, and of the tree's: "words of the other watch .. are 10"
 abbrev pub ringForm : RingStep → Form
 ringForm (ring.Send i j) = send i j
-ringForm (ring.Take i) = takeOne i
+ringForm (ring.TakeOne i) = takeOne i
+ringForm (ring.Take i n) = takeWith i n
 ringForm (ring.Idle i) = idle i
 ringForm ring.Probe = probe
 ringForm (ring.Pass i) = pass i
@@ -112,7 +114,7 @@ ringForm ring.Announce = announce
 
 abbrev pub treeForm : TreeStep → Form
 treeForm (tree.Send i j) = send i j
-treeForm (tree.Take i k) = takeFrom i k
+treeForm (tree.Take i k) = takeWith i k
 treeForm (tree.Idle i) = idle i
 treeForm (tree.Ack i) = ack i
 treeForm (tree.Leave i) = leave i

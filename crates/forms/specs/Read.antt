@@ -1,7 +1,7 @@
 -- The recognisers of steps, as the code goes. What they answer is `Exact`. Assumes nothing.
 use mathlib.Core.Bool.{Bool, _&&_, cond}
 use mathlib.Core.List.{List, [], _∷_}
-use Prim.Native.Nat.{ℕ, _+_}
+use Prim.Native.Nat.{ℕ, zero, suc, _+_}
 use lib.ListN.{length, getD, drop}
 use lib.Dec.{ltb, eqb}
 use Rattle.decimal.specs.declared.Num.{Num}
@@ -41,17 +41,28 @@ unfoldable pub twoOf : List ℕ → Num → Args
 twoOf s (Value i p) = secondOf s i (spacedOf s p)
 twoOf s Wrong = Bad
 
+-- one number, or else two: the second is told as one more than it says, and as 0 where it is missing
+abbrev pub raised : Args → Args
+raised (Found i j e) = Found i (suc j) e
+raised Bad = Bad
+
+abbrev pub eitherOf : Args → Args → Args
+eitherOf (Found i j e) b = Found i j e
+eitherOf Bad b = raised b
+
 -- how many numbers follow a word
 pub data Arity : Type 0 where
   none : Arity
   one : Arity
   two : Arity
+  oneOrTwo : Arity
 
 -- so many numbers, and the end of the form
 abbrev pub argsOf : Arity → List ℕ → ℕ → Args
 argsOf none s at = closedOf s at 0 0
 argsOf one s at = oneOf s (spacedOf s at)
 argsOf two s at = twoOf s (spacedOf s at)
+argsOf oneOrTwo s at = eitherOf (oneOf s (spacedOf s at)) (twoOf s (spacedOf s at))
 
 -- a form that was read and the index past it, or none
 pub data Read (A : Type 0) : Type 0 where
@@ -77,11 +88,16 @@ readBy [] s at = other
 readBy (h ∷ hs) s at =
     cond (starts (h .word) (drop at s)) (madeOf (h .made) (argsOf (h .count) s (at + length (h .word)))) (readBy hs s at)
 
+-- a take of the ring: j is one more than the number that is written, and 0 where none is
+abbrev pub ringTake : ℕ → ℕ → RingStep
+ringTake i zero = ring.TakeOne i
+ringTake i (suc n) = ring.Take i n
+
 -- the steps of the ring by document 01's kind numbers
 abbrev pub ringKind : ℕ → ℕ → ℕ → RingStep
 ringKind kind i j =
     cond (eqb kind 1) (ring.Send i j)
-    (cond (eqb kind 2) (ring.Take i)
+    (cond (eqb kind 2) (ringTake i j)
     (cond (eqb kind 3) (ring.Idle i)
     (cond (eqb kind 4) ring.Probe
     (cond (eqb kind 5) (ring.Pass i)
@@ -90,7 +106,7 @@ ringKind kind i j =
 abbrev pub ringShapes : List (StepShape RingStep)
 ringShapes =
     shape (bytes "(send") two (ringKind 1)
-    ∷ shape (bytes "(take") one (ringKind 2)
+    ∷ shape (bytes "(take") oneOrTwo (ringKind 2)
     ∷ shape (bytes "(idle") one (ringKind 3)
     ∷ shape (bytes "(probe") none (ringKind 4)
     ∷ shape (bytes "(pass") one (ringKind 5)

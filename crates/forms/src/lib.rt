@@ -4,15 +4,16 @@ use decimal::byte_at;
 use decimal::has;
 use decimal::short_number;
 ghost use mathlib.Core.Path.{_≡_};
-ghost use Rattle.forms.specs.Read.{one, two, spacedOf, closedOf, secondOf, argsOf, endsLine};
+ghost use Rattle.forms.specs.Read.{one, two, oneOrTwo, spacedOf, closedOf, secondOf, raised, argsOf, endsLine};
 
 // The most bytes of a line, byte 10 with them: `lineBytes` of specs/Form.
 pub const LINE_BYTES: usize = 700;
 
-// A step of the ring.
+// A step of the ring, as it is written: `TakeOne(i)` is `(take i)`, `Take(i, n)` is `(take i n)`.
 pub enum RingStep {
     Send(usize, usize),
-    Take(usize),
+    TakeOne(usize),
+    Take(usize, usize),
     Idle(usize),
     Probe,
     Pass(usize),
@@ -40,7 +41,7 @@ pub enum TreeLine {
     NotAForm,
 }
 
-// The numbers after a word, 0 for those that it has not, and the index past the form.
+// The numbers after a word, 0 for those that it has not, and the index past the form. Where the second may be missing, it is told as one more.
 pub enum Args {
     Found(usize, usize, usize),
     Bad,
@@ -93,6 +94,33 @@ pub fn two_numbers(s: &[u8], at: usize) -> Args
     let m = spaced(s, at);
     match m {
         Num::Value(i, p) => second(s, p, i),
+        Num::Wrong => Args::Bad,
+    }
+}
+
+// The second number, after the first, i, told as one more than it says.
+fn second_more(s: &[u8], at: usize, i: usize) -> Args
+    ensures { λ r. ⌜ r ≡ raised (secondOf (now (s .entry)) i (spacedOf (now (s .entry)) at)) ⌝ }
+{
+    let m = spaced(s, at);
+    match m {
+        Num::Value(j, p) => closed(s, p, i, j + 1),
+        Num::Wrong => Args::Bad,
+    }
+}
+
+// One number, or two: the second is told as one more than it says, and as 0 where it is missing.
+pub fn one_or_two(s: &[u8], at: usize) -> Args
+    ensures { λ r. ⌜ r ≡ argsOf oneOrTwo (now (s .entry)) at ⌝ }
+{
+    let m = spaced(s, at);
+    match m {
+        Num::Value(i, p) => {
+            if byte_at(s, p) == b')' {
+                return Args::Found(i, 0, p + 1);
+            }
+            second_more(s, p, i)
+        }
         Num::Wrong => Args::Bad,
     }
 }
