@@ -6,10 +6,21 @@ use forms::RingLine;
 use forms::RingStep;
 use forms::closed;
 use forms::one_number;
+use forms::one_or_two;
 use forms::two_numbers;
 ghost use mathlib.Core.Path.{_≡_};
 ghost use Rattle.forms.specs.Exact.{RingRead};
-ghost use Rattle.forms.specs.Read.{madeOf, readBy, ringKind, ringShapes, ringLineOf, ringAt};
+ghost use Rattle.forms.specs.Read.{madeOf, readBy, ringTake, ringKind, ringShapes, ringLineOf, ringAt};
+
+// A take of the ring: j is one more than the number that is written, and 0 where none is.
+fn ring_take(i: usize, j: usize) -> RingStep
+    ensures { λ r. ⌜ r ≡ ringTake i j ⌝ }
+{
+    if j == 0 {
+        return RingStep::TakeOne(i);
+    }
+    RingStep::Take(i, j - 1)
+}
 
 // The ring's step of a kind number, of document 01's list.
 fn ring_kind(kind: u8, i: usize, j: usize) -> RingStep
@@ -17,7 +28,7 @@ fn ring_kind(kind: u8, i: usize, j: usize) -> RingStep
 {
     match kind {
         1 => RingStep::Send(i, j),
-        2 => RingStep::Take(i),
+        2 => ring_take(i, j),
         3 => RingStep::Idle(i),
         4 => RingStep::Probe,
         5 => RingStep::Pass(i),
@@ -43,7 +54,7 @@ fn ring_form(s: &[u8], at: usize) -> RingLine
         return ring_line(1, two_numbers(s, at + 5));
     }
     if has(s, at, b"(take") {
-        return ring_line(2, one_number(s, at + 5));
+        return ring_line(2, one_or_two(s, at + 5));
     }
     if has(s, at, b"(idle") {
         return ring_line(3, one_number(s, at + 5));
