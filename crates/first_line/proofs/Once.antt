@@ -1,6 +1,5 @@
 -- No two valid forms share a line. Assumes nothing.
 use mathlib.Core.Path.{_≡_, refl, sym, ap, _∙_}
-use mathlib.Core.Bool.{false}
 use mathlib.Core.List.{List, _∷_, _++_, append-assoc}
 use Prim.Native.Nat.{ℕ, _+_}
 use native.Mathlib.Omega.{arith}
@@ -13,8 +12,8 @@ use Rattle.forms.specs.declared.RingStep.{RingStep}
 use Rattle.forms.specs.declared.RingStep.the-variants as ring
 use Rattle.forms.specs.declared.TreeStep.{TreeStep}
 use Rattle.forms.specs.declared.TreeStep.the-variants as tree
-use Rattle.forms.specs.Form.{Form, bareRing, ringWith, treeOf, send, takeOne, takeFrom, idle, probe, pass, ack, leave, announce, update, written, formText, Small, SmallForm, ringForm, treeForm}
-use Rattle.forms.specs.Read.{Read, other, closedOf, oneOf, madeOf, readBy, ringShapes, treeShapes}
+use Rattle.forms.specs.Form.{Form, bareRing, ringWith, treeOf, send, takeOne, takeWith, idle, probe, pass, ack, leave, announce, update, written, formText, Small, SmallForm, ringForm, treeForm}
+use Rattle.forms.specs.Read.{Read, other, readBy, ringShapes, treeShapes}
 use Rattle.forms.proofs.Arguments.{spaced-found}
 use Rattle.forms.proofs.Lines.{form-line}
 use Rattle.forms.proofs.Reading.{no-read, Reader, line-once}
@@ -26,12 +25,10 @@ use Rattle.first_line.proofs.Opens.{start-reader}
 
 -- the steps that only the tree has
 data Only : Type 0 where
-  takes : ℕ → ℕ → Only
   acks : ℕ → Only
   leaves : ℕ → Only
 
 onlyTree : Only → TreeStep
-onlyTree (takes i k) = tree.Take i k
 onlyTree (acks i) = tree.Ack i
 onlyTree (leaves i) = tree.Leave i
 
@@ -51,8 +48,8 @@ sort-of (bareRing n) = opens (bare n)
 sort-of (ringWith n active black) = opens (lists n active black)
 sort-of (treeOf n root) = opens (tree n root)
 sort-of (send i j) = steps (ring.Send i j)
-sort-of (takeOne i) = steps (ring.Take i)
-sort-of (takeFrom i k) = only (takes i k)
+sort-of (takeOne i) = steps (ring.TakeOne i)
+sort-of (takeWith i k) = steps (ring.Take i k)
 sort-of (idle i) = steps (ring.Idle i)
 sort-of probe = steps ring.Probe
 sort-of (pass i) = steps (ring.Pass i)
@@ -71,7 +68,8 @@ apart {form = form} {reader} R a g v h e =
 not-first : (f : RingStep) → startAt (formText (ringForm f)) 0 ≡ other
 unfolding startAt starts
 not-first (ring.Send i j) = refl
-not-first (ring.Take i) = refl
+not-first (ring.TakeOne i) = refl
+not-first (ring.Take i n) = refl
 not-first (ring.Idle i) = refl
 not-first ring.Probe = refl
 not-first (ring.Pass i) = refl
@@ -79,23 +77,14 @@ not-first ring.Announce = refl
 
 only-not-first : (f : Only) → startAt (formText (onlyForm f)) 0 ≡ other
 unfolding startAt starts onlyTree
-only-not-first (takes i k) = refl
 only-not-first (acks i) = refl
 only-not-first (leaves i) = refl
 
 -- no step of the ring is one that only the tree has
-not-ring : (f : Only) → SmallForm (onlyForm f) → readBy ringShapes (formText (onlyForm f)) 0 ≡ other
-unfolding readBy madeOf oneOf closedOf starts onlyTree
-not-ring (takes i k) v =
-    let R = bytes " " ++ (decimal k ++ bytes ")") in
-    let s = formText (takeFrom i k) in
-    let u = R ++ bytes "\n" in
-    let t : drop 5 s ≡ bytes " " ++ (decimal i ++ u) = ap (λ (l : List ℕ). 32 ∷ l) (append-assoc (decimal i) R (bytes "\n")) in
-    let f = spaced-found s 5 i u (v .0) t refl in
-    let off : starts (bytes ")") (drop (5 + 1 + length (decimal i)) s) ≡ false = ap (starts (bytes ")")) (f .1) in
-    rw (f .0, off)
-not-ring (acks i) v = refl
-not-ring (leaves i) v = refl
+not-ring : (f : Only) → readBy ringShapes (formText (onlyForm f)) 0 ≡ other
+unfolding readBy starts onlyTree
+not-ring (acks i) = refl
+not-ring (leaves i) = refl
 
 -- no update is another form
 update-not-first : (u : ℕ) (f : Form) → startAt (formText (update u f)) 0 ≡ other
@@ -147,9 +136,9 @@ once-by (opens a) (steps b) = λ vf vg e. apart start-reader a (ringForm b) vf (
 once-by (opens a) (only b) = λ vf vg e. apart start-reader a (onlyForm b) vf (only-not-first b) e
 once-by (steps a) (opens b) = λ vf vg e. apart start-reader b (ringForm a) vg (not-first a) (sym e)
 once-by (steps a) (steps b) = λ vf vg e. ap ringForm (ring-once a b vf vg e)
-once-by (steps a) (only b) = λ vf vg e. apart ring-reader a (onlyForm b) vf (not-ring b vg) e
+once-by (steps a) (only b) = λ vf vg e. apart ring-reader a (onlyForm b) vf (not-ring b) e
 once-by (only a) (opens b) = λ vf vg e. apart start-reader b (onlyForm a) vg (only-not-first a) (sym e)
-once-by (only a) (steps b) = λ vf vg e. apart ring-reader b (onlyForm a) vg (not-ring a vf) (sym e)
+once-by (only a) (steps b) = λ vf vg e. apart ring-reader b (onlyForm a) vg (not-ring a) (sym e)
 once-by (only a) (only b) = λ vf vg e. ap treeForm (tree-once (onlyTree a) (onlyTree b) vf vg e)
 once-by (opens a) (inside v {f = g} b) = λ vf vg e. apart start-reader a (update v g) vf (update-not-first v g) e
 once-by (steps a) (inside v {f = g} b) = λ vf vg e. apart ring-reader a (update v g) vf (update-not-ring v g) e
