@@ -11,6 +11,7 @@ use forms::RingStep;
 use forms::closed;
 use forms::ends_line;
 use forms::one_number;
+use forms::one_or_two;
 use forms::spaced;
 use forms::two_numbers;
 use refusal::RING_NODES;
@@ -67,7 +68,7 @@ fn inner_step(s: &[u8], at: usize) -> RingLine
         return ring_line(1, two_numbers(s, at + 5));
     }
     if has(s, at, b"(take") {
-        return ring_line(2, one_number(s, at + 5));
+        return ring_line(2, one_or_two(s, at + 5));
     }
     if has(s, at, b"(idle") {
         return ring_line(3, one_number(s, at + 5));

@@ -39,13 +39,13 @@ slice-aggregate-has-2 c = search needs
 has-requires-2 : tie.Need-has-requires-2
 has-requires-2 c κs = search needs
 
-add-one-number : tie.Need-add-one-number
-add-one-number c =
+add-one-or-two : tie.Need-add-one-or-two
+add-one-or-two c =
     let start = c .before .before .before .before .before .before .before in
     omega (arith, word-in (start .args .s .now) (start .args .at) (bytes "(take") (omega arith) (sym (c .before .has2 .ensures) ∙ c .if2 .taken))
 
-one-number-requires : tie.Need-one-number-requires
-one-number-requires c κs = search needs
+one-or-two-requires : tie.Need-one-or-two-requires
+one-or-two-requires c κs = search needs
 
 ring-line-requires-2 : tie.Need-ring-line-requires-2
 ring-line-requires-2 c κs = search needs
@@ -57,7 +57,7 @@ returns-2 c =
     let at-if1 = at-has2 .before .before in
     let at-has = at-if1 .before in
     rw (sym (at-has .has .ensures) ∙ at-if1 .if1 .left, sym (at-has2 .has2 .ensures) ∙ c .before .before .if2 .taken)
-    (c .ring-line2 .ensures ∙ ap (λ (a : Args). ringLineOf (madeOf (ringKind 2) a)) (c .before .one-number .ensures))
+    (c .ring-line2 .ensures ∙ ap (λ (a : Args). ringLineOf (madeOf (ringKind 2) a)) (c .before .one-or-two .ensures))
 
 slice-aggregate-has-3 : tie.Need-slice-aggregate-has-3
 slice-aggregate-has-3 c = search needs
@@ -65,13 +65,13 @@ slice-aggregate-has-3 c = search needs
 has-requires-3 : tie.Need-has-requires-3
 has-requires-3 c κs = search needs
 
-add-one-number-2 : tie.Need-add-one-number-2
-add-one-number-2 c =
+add-one-number : tie.Need-add-one-number
+add-one-number c =
     let start = c .before .before .before .before .before .before .before .before .before .before in
     omega (arith, word-in (start .args .s .now) (start .args .at) (bytes "(idle") (omega arith) (sym (c .before .has3 .ensures) ∙ c .if3 .taken))
 
-one-number-requires-2 : tie.Need-one-number-requires-2
-one-number-requires-2 c κs = search needs
+one-number-requires : tie.Need-one-number-requires
+one-number-requires c κs = search needs
 
 ring-line-requires-3 : tie.Need-ring-line-requires-3
 ring-line-requires-3 c κs = search needs
@@ -90,7 +90,7 @@ returns-3 c =
       sym (at-has3 .has3 .ensures)
           ∙ c .before .before .if3 .taken,
     )
-    (c .ring-line3 .ensures ∙ ap (λ (a : Args). ringLineOf (madeOf (ringKind 3) a)) (c .before .one-number2 .ensures))
+    (c .ring-line3 .ensures ∙ ap (λ (a : Args). ringLineOf (madeOf (ringKind 3) a)) (c .before .one-number .ensures))
 
 slice-aggregate-has-4 : tie.Need-slice-aggregate-has-4
 slice-aggregate-has-4 c = search needs
@@ -134,13 +134,13 @@ slice-aggregate-has-5 c = search needs
 has-requires-5 : tie.Need-has-requires-5
 has-requires-5 c κs = search needs
 
-add-one-number-3 : tie.Need-add-one-number-3
-add-one-number-3 c =
+add-one-number-2 : tie.Need-add-one-number-2
+add-one-number-2 c =
     let start = c .before .before .before .before .before .before .before .before .before .before .before .before .before .before .before .before in
     omega (arith, word-in (start .args .s .now) (start .args .at) (bytes "(pass") (omega arith) (sym (c .before .has5 .ensures) ∙ c .if5 .taken))
 
-one-number-requires-3 : tie.Need-one-number-requires-3
-one-number-requires-3 c κs = search needs
+one-number-requires-2 : tie.Need-one-number-requires-2
+one-number-requires-2 c κs = search needs
 
 ring-line-requires-5 : tie.Need-ring-line-requires-5
 ring-line-requires-5 c κs = search needs
@@ -165,7 +165,7 @@ returns-5 c =
       sym (at-has4 .has4 .ensures) ∙ at-if4 .if4 .left,
       sym (at-has5 .has5 .ensures) ∙ c .before .before .if5 .taken,
     )
-    (c .ring-line5 .ensures ∙ ap (λ (a : Args). ringLineOf (madeOf (ringKind 5) a)) (c .before .one-number3 .ensures))
+    (c .ring-line5 .ensures ∙ ap (λ (a : Args). ringLineOf (madeOf (ringKind 5) a)) (c .before .one-number2 .ensures))
 
 slice-aggregate-has-6 : tie.Need-slice-aggregate-has-6
 slice-aggregate-has-6 c = search needs
@@ -244,14 +244,14 @@ inner-step-spec =
     returns
     slice-aggregate-has-2
     has-requires-2
-    add-one-number
-    one-number-requires
+    add-one-or-two
+    one-or-two-requires
     ring-line-requires-2
     returns-2
     slice-aggregate-has-3
     has-requires-3
-    add-one-number-2
-    one-number-requires-2
+    add-one-number
+    one-number-requires
     ring-line-requires-3
     returns-3
     slice-aggregate-has-4
@@ -262,8 +262,8 @@ inner-step-spec =
     returns-4
     slice-aggregate-has-5
     has-requires-5
-    add-one-number-3
-    one-number-requires-3
+    add-one-number-2
+    one-number-requires-2
     ring-line-requires-5
     returns-5
     slice-aggregate-has-6
