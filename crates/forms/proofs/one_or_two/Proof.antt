@@ -30,7 +30,7 @@ returns c =
     let at-spaced = at-m .before .before in
     let a = at-spaced .before .before .args in
     let close = byte-word (a .s .now) (at-m .m .given .0 .1 .0) 41 (omega arith) in
-    rw (← at-spaced .spaced .ensures, at-m .m .given .1, close, ← c .before .byte-at .ensures, eq-eqb _ _ (c .if1 .taken))
+    rw (← at-spaced .spaced .ensures, at-m .m .given .1, close, ← c .before .byte-at .ensures, eq-eqb _ 41 (c .if1 .taken))
 
 second-more-requires : tie.Need-second-more-requires
 second-more-requires c κs = search needs
@@ -46,7 +46,7 @@ returns-2 c =
     let at-spaced = at-m .before .before in
     let a = at-spaced .before .before .args in
     let close = byte-word (a .s .now) (at-m .m .given .0 .1 .0) 41 (omega arith) in
-    rw (← at-spaced .spaced .ensures, at-m .m .given .1, close, ← at-byte .byte-at .ensures, ne-eqb _ _ (c .before .if1 .left))
+    rw (← at-spaced .spaced .ensures, at-m .m .given .1, close, ← at-byte .byte-at .ensures, ne-eqb _ 41 (c .before .if1 .left))
     (c .second-more .ensures)
 
 returns-3 : tie.Need-returns-3
