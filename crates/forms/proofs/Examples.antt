@@ -1,9 +1,15 @@
 -- The lines that documents 01 and 02 show are those of their forms. Assumes nothing.
 use mathlib.Core.Path.{_≡_, refl}
 use mathlib.Core.List.{List, [], _∷_, map}
+use Prim.Native.Nat.{ℕ}
 use Rattle.decimal.specs.Bytes.{bytes}
+use Rattle.decimal.specs.Number.{checked, keptOf, numberAt, scanOf}
 use Rattle.decimal.specs.Text.{digits, decimal}
+use Rattle.decimal.specs.Word.{starts}
+use Rattle.forms.specs.declared.RingLine.the-variants.{Step, NotAForm}
+use Rattle.forms.specs.declared.RingStep.the-variants.{TakeOne, Take}
 use Rattle.forms.specs.Form.{Form, bareRing, ringWith, treeOf, send, takeOne, takeWith, idle, probe, pass, ack, leave, announce, update, formText}
+use Rattle.forms.specs.Read.{spacedOf, closedOf, oneOf, secondOf, twoOf, madeOf, readBy, endsLine, lined, ringAt}
 
 abbrev shown : List Form
 shown =
@@ -51,3 +57,35 @@ pub lines-shown : map formText shown
     ∷ [])
 unfolding decimal digits
 lines-shown = refl
+
+-- what is read of a take on the ring: its numbers are judged later, but have one to five digits without leading zeros
+abbrev takes : List (List ℕ)
+takes =
+    bytes "(take 2)\n"
+    ∷ bytes "(take 2 5)\n"
+    ∷ bytes "(take 2 1)\n"
+    ∷ bytes "(take 2 0)\n"
+    ∷ bytes "(take 2 1001)\n"
+    ∷ bytes "(take 2 99999)\n"
+    ∷ bytes "(take 2 100000)\n"
+    ∷ bytes "(take 2 05)\n"
+    ∷ bytes "(take 2 )\n"
+    ∷ bytes "(take 2 5 6)\n"
+    ∷ bytes "(take)\n"
+    ∷ []
+
+pub takes-read : map (λ (s : List ℕ). ringAt s 0) takes
+    ≡ (Step (TakeOne 2) 9
+    ∷ Step (Take 2 5) 11
+    ∷ Step (Take 2 1) 11
+    ∷ Step (Take 2 0) 11
+    ∷ Step (Take 2 1001) 14
+    ∷ Step (Take 2 99999) 15
+    ∷ NotAForm
+    ∷ NotAForm
+    ∷ NotAForm
+    ∷ NotAForm
+    ∷ NotAForm
+    ∷ [])
+unfolding scanOf checked numberAt keptOf starts spacedOf closedOf oneOf secondOf twoOf madeOf readBy endsLine lined ringAt
+takes-read = refl
