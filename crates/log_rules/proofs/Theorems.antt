@@ -15,17 +15,21 @@ use Rattle.first_line.specs.Start.{Start, seen, startForm}
 use Rattle.forms.proofs.Steps.{ring-exact, ring-not, tree-exact, tree-not}
 use Rattle.forms.specs.Form.{Form, Says, formText, line, ringForm, treeForm}
 use Rattle.forms.specs.Read.{Read, other, read}
+use Rattle.forms.specs.declared.RingStep.{RingStep}
+use Rattle.table_rules.specs.Table.{Table}
 use Rattle.update_forms.proofs.Exact.{wrapped-exact, wrapped-other}
 use Rattle.update_forms.specs.Read.{wrappedAt}
 use Rattle.update_forms.specs.Wrapped.{Wrapped, bare, lists, step, wrappedForm}
 use Rattle.log_rules.proofs.Cuts.{long-told, split-take, unended-told}
 use Rattle.log_rules.proofs.Ends.{ended-append, ended-itself, ended-long, form-ended, unended-append}
 use Rattle.log_rules.proofs.InPlace.{same-told}
-use Rattle.log_rules.specs.Answers.{firstTold, fresh, freshTold, lineTold, updateFirst}
+use Rattle.log_rules.specs.Answers.{firstTold, fresh, freshTold, lineTold, onRing, onTable, ringStepTold, tableTold, updateFirst}
 use Rattle.log_rules.specs.Lines.{lineLimit, split}
 use Rattle.log_rules.specs.Output.{linesTold, restOf}
 use Rattle.log_rules.specs.Pieces.{OneLine, PartLine, empty, newline}
 use Rattle.log_rules.specs.Theorems.{LinesCut, LinesOf, LinesRead, LinesSay}
+use Rattle.forms.specs.declared.RingStep.the-variants as ringStep
+use Rattle.ring_rules.specs.State as ring
 use Rattle.log_rules.specs.Pieces as pieces
 use Rattle.log_rules.specs.Theorems as lines
 
@@ -65,6 +69,15 @@ wrapped-read : (l : List ℕ) (w : Wrapped) → Says (line l) (wrappedForm w) �
 unfolding past
 wrapped-read l w t = wrapped-exact l 0 w (past w) .1 (t, refl)
 
+ring-said : (r : ring.State) (m k : ℕ) (l : List ℕ) (f : RingStep) → Says l (ringForm f) → lineTold (onRing r m) k l ≡ ringStepTold r m k f
+unfolding lineTold
+ring-said r m k l f s = rw (ring-exact l 0 f (0 + length (formText (ringForm f))) .1 (says-first (ringForm f) l s, refl))
+
+update-said :
+    (t : Table) (ms : List ℕ) (k : ℕ) (l : List ℕ) (w : Wrapped) → Says l (wrappedForm w) → lineTold (onTable t ms) k l ≡ tableTold t ms k (read w 0)
+unfolding lineTold
+update-said t ms k l w s = rw (wrapped-read l w (says-first (wrappedForm w) l s)) (same-told t ms k w (past w) 0)
+
 pub lines-say : LinesSay
 unfolding lineTold
 lines-say = record {
@@ -75,12 +88,15 @@ lines-say = record {
         first-other l 0 .1 (λ f s. h f (says-itself (startForm f) l o s)),
         wrapped-other l 0 .1 (λ w s. g w (says-itself (wrappedForm w) l o s)),
       );
-  ring-step = λ r m k l f s. rw (ring-exact l 0 f (0 + length (formText (ringForm f))) .1 (says-first (ringForm f) l s, refl));
+  ring-step = ring-said;
   ring-other = λ r m k l o h. rw (ring-not l 0 .1 (λ f s. h f (says-itself (ringForm f) l o s)));
   tree-step = λ t k l f s. rw (tree-exact l 0 f (0 + length (formText (treeForm f))) .1 (says-first (treeForm f) l s, refl));
   tree-other = λ t k l o h. rw (tree-not l 0 .1 (λ f s. h f (says-itself (treeForm f) l o s)));
-  update-line = λ t ms k l w s. rw (wrapped-read l w (says-first (wrappedForm w) l s)) (same-told t ms k w (past w) 0);
+  update-line = update-said;
   update-other = λ t ms k l o h. rw (wrapped-other l 0 .1 (λ w s. h w (says-itself (wrappedForm w) l o s)));
+  take-one = λ r m k l l′ i s t. ring-said r m k l (ringStep.TakeOne i) s ∙ sym (ring-said r m k l′ (ringStep.Take i 1) t);
+  update-take-one = λ t ms k l l′ u i s v.
+      update-said t ms k l (step u (ringStep.TakeOne i)) s ∙ sym (update-said t ms k l′ (step u (ringStep.Take i 1)) v);
   too-long = λ s k l o h. long-told s k l (ended-itself o) h;
   unended = λ s k l u. unended-told s k u;
   after = λ k l. refl;

@@ -151,10 +151,11 @@ freshTold line.Ring f w = firstTold line.Ring f
 freshTold line.Tree f w = firstTold line.Tree f
 freshTold line.NotAForm f w = updateFirst w
 
--- the kind number and the node numbers of a step
+-- the kind number and the numbers of a step. Document 02, Q-2: "`(take 2 5)` is new and `(take 2)` means one"
 abbrev pub ringRequest : RingStep → Request
 ringRequest (ringStep.Send i j) = record { kind = 1; i = i; j = j }
-ringRequest (ringStep.Take i) = record { kind = 2; i = i; j = 0 }
+ringRequest (ringStep.TakeOne i) = record { kind = 2; i = i; j = 1 }
+ringRequest (ringStep.Take i n) = record { kind = 2; i = i; j = n }
 ringRequest (ringStep.Idle i) = record { kind = 3; i = i; j = 0 }
 ringRequest ringStep.Probe = record { kind = 4; i = 0; j = 0 }
 ringRequest (ringStep.Pass i) = record { kind = 5; i = i; j = 0 }
@@ -170,7 +171,8 @@ treeRequest treeStep.Announce = record { kind = 6; i = 0; j = 0 }
 
 abbrev pub isMove : RingStep → Bool
 isMove (ringStep.Send i j) = false
-isMove (ringStep.Take i) = false
+isMove (ringStep.TakeOne i) = false
+isMove (ringStep.Take i n) = false
 isMove (ringStep.Idle i) = false
 isMove ringStep.Probe = true
 isMove (ringStep.Pass i) = true

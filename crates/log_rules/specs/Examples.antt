@@ -35,6 +35,27 @@ examples =
     ∷ record { log = bytes "(ring 2)\r\n(probe)\r\n"; output = bytes "(no 1 10)\n" }
     ∷ record { log = bytes "(ring 2)"; output = bytes "(no 1 10)\n" }
     ∷ record { log = []; output = bytes "(no 1 10)\n" }
+    -- takes of several: 3 of 3 pending, after 4, none and 1,001 are refused; none is left for one more; of two more one by one; a second number of
+    -- six digits, with a leading zero, or missing after its space; node 3 is none, whatever it takes
+    ∷ record {
+      log =
+          bytes "(ring 3 (active 0) (black))\n(send 0 2)\n(send 0 2)\n(send 0 2)\n(take 2 4)\n(take 2 0)\n(take 2 1001)\n(take 2 3)\n(take 2)\n"
+          ++ bytes "(send 0 2)\n(send 0 2)\n(take 2)\n(take 2 1)\n(take 2 100000)\n(take 2 01)\n(take 2 )\n(take 3 0)\n(take 2 1 1)\n(send 0 1)\n";
+      output =
+          bytes "(ok 1)\n(ok 2)\n(ok 3)\n(ok 4)\n(no 5 8)\n(no 6 8)\n(no 7 8)\n(ok 8)\n(no 9 8)\n"
+          ++ bytes "(ok 10)\n(ok 11)\n(ok 12)\n(ok 13)\n(no 14 10)\n(no 15 10)\n(no 16 10)\n(no 17 6)\n(no 18 10)\n(ok 19)\n"
+          ++ bytes "(end (boards 3) (holder 0) (moves 0) (flight 1) (black 1))\n";
+    }
+    -- a wrapped take of two, beside another update
+    ∷ record {
+      log =
+          bytes "(update 1 (ring 2 (active 0) (black)))\n(update 0 (ring 2))\n(update 1 (send 0 1))\n(update 1 (send 0 1))\n"
+          ++ bytes "(update 0 (take 1 2))\n(update 1 (take 1 3))\n(update 1 (take 1 2))\n(update 1 (take 1))\n";
+      output =
+          bytes "(ok 1)\n(ok 2)\n(ok 3)\n(ok 4)\n(no 5 8)\n(no 6 8)\n(ok 7)\n(no 8 8)\n"
+          ++ bytes "(update 0 (end (boards 2) (holder 0) (moves 0) (flight 0) (black 0)))\n"
+          ++ bytes "(update 1 (end (boards 2) (holder 0) (moves 0) (flight 0) (black 1)))\n";
+    }
     -- three updates interleaved: another N, an update that is not started, a bare step; update 2 is started afresh after two token moves, and a
     -- start that is refused leaves it; 9 and 8 are no updates; update 0 is announced; a bare start
     ∷ record {

@@ -7,7 +7,7 @@ use mathlib.Core.Bool.{cond}
 use mathlib.Core.List.{List, [], _++_, _∷_}
 use mathlib.Core.Path.{_≡_}
 use Rattle.first_line.specs.Start.{Start, seen, startForm}
-use Rattle.forms.specs.Form.{Says, lineBytes, ringForm, treeForm}
+use Rattle.forms.specs.Form.{Says, lineBytes, ringForm, takeOne, takeWith, treeForm, update}
 use Rattle.forms.specs.Read.{read}
 use Rattle.forms.specs.declared.RingStep.{RingStep}
 use Rattle.forms.specs.declared.TreeStep.{TreeStep}
@@ -44,6 +44,13 @@ pub record LinesSay : Type 0 where
   pub update-other :
       (t : Table) (ms : List ℕ) (k : ℕ) (l : List ℕ) → OneLine l → ((w : Wrapped) → Says l (wrappedForm w) → ⊥)
       → lineTold (onTable t ms) k l ≡ notTold (onTable t ms) k
+  -- Document 02, Q-2: "`(take 2)` means one", on a ring and inside an update
+  pub take-one :
+      (r : ring.State) (m k : ℕ) (l l′ : List ℕ) (i : ℕ) → Says l (takeOne i) → Says l′ (takeWith i 1)
+      → lineTold (onRing r m) k l ≡ lineTold (onRing r m) k l′
+  pub update-take-one :
+      (t : Table) (ms : List ℕ) (k : ℕ) (l l′ : List ℕ) (u i : ℕ) → Says l (update u (takeOne i)) → Says l′ (update u (takeWith i 1))
+      → lineTold (onTable t ms) k l ≡ lineTold (onTable t ms) k l′
   -- "A line that is too long or lacks its byte 10 is one line, refused with 10."
   pub too-long : (s : Stage) (k : ℕ) (l : List ℕ) → OneLine l → lineBytes < length l → lineTold s k l ≡ notTold s k
   pub unended : (s : Stage) (k : ℕ) (l : List ℕ) → PartLine l → lineTold s k l ≡ notTold s k
