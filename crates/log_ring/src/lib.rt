@@ -62,7 +62,8 @@ fn moved_by(f: RingStep) -> u64
 {
     match f {
         RingStep::Send(_, _) => 0,
-        RingStep::Take(_) => 0,
+        RingStep::TakeOne(_) => 0,
+        RingStep::Take(_, _) => 0,
         RingStep::Idle(_) => 0,
         RingStep::Probe => 1,
         RingStep::Pass(_) => 1,
@@ -100,7 +101,8 @@ fn carry_out(
     }
     match f {
         RingStep::Send(i, j) => send(r, active, color, sent, received, pending, i, j),
-        RingStep::Take(i) => take(r, active, color, sent, received, pending, i),
+        RingStep::TakeOne(i) => take(r, active, color, sent, received, pending, i, 1),
+        RingStep::Take(i, n) => take(r, active, color, sent, received, pending, i, n),
         RingStep::Idle(i) => idle(r, active, color, sent, received, pending, i),
         RingStep::Probe => probe(r, active, color, sent, received, pending),
         RingStep::Pass(i) => pass(r, active, color, sent, received, pending, i),

@@ -33,7 +33,8 @@ use Rattle.tree_runs.specs.Counts as treeCounts
 
 pub move-is : (f : RingStep) → cond (isMove f && true) 1 0 ≡ moveBy (ringCounts.kind (ringRequest f))
 move-is (ringStep.Send i j) = refl
-move-is (ringStep.Take i) = refl
+move-is (ringStep.TakeOne i) = refl
+move-is (ringStep.Take i n) = refl
 move-is (ringStep.Idle i) = refl
 move-is ringStep.Probe = refl
 move-is (ringStep.Pass i) = refl
@@ -45,7 +46,8 @@ no-move false = refl
 
 pub ring-only : (f : RingStep) → ringCounts.isAnnounce (ringCounts.kind (ringRequest f)) ≡ true → ringForm f ≡ announce
 ring-only (ringStep.Send i j) e = absurd (false-true e)
-ring-only (ringStep.Take i) e = absurd (false-true e)
+ring-only (ringStep.TakeOne i) e = absurd (false-true e)
+ring-only (ringStep.Take i n) e = absurd (false-true e)
 ring-only (ringStep.Idle i) e = absurd (false-true e)
 ring-only ringStep.Probe e = absurd (false-true e)
 ring-only (ringStep.Pass i) e = absurd (false-true e)

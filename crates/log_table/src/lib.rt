@@ -65,7 +65,8 @@ fn request_of(f: RingStep) -> Request
 {
     match f {
         RingStep::Send(i, j) => Request { kind: 1, i, j },
-        RingStep::Take(i) => Request { kind: 2, i, j: 0 },
+        RingStep::TakeOne(i) => Request { kind: 2, i, j: 1 },
+        RingStep::Take(i, n) => Request { kind: 2, i, j: n },
         RingStep::Idle(i) => Request { kind: 3, i, j: 0 },
         RingStep::Probe => Request {
             kind: 4,

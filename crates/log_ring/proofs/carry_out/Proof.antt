@@ -30,6 +30,12 @@ take-requires c κs = search needs
 enum-known-f-3 : tie.Need-enum-known-f-3
 enum-known-f-3 c = search needs
 
+take-requires-2 : tie.Need-take-requires-2
+take-requires-2 c κs = search needs
+
+enum-known-f-4 : tie.Need-enum-known-f-4
+enum-known-f-4 c = search needs
+
 idle-requires : tie.Need-idle-requires
 idle-requires c κs = search needs
 
@@ -39,8 +45,8 @@ enum-told c = search needs
 probe-requires : tie.Need-probe-requires
 probe-requires c κs = search needs
 
-enum-known-f-4 : tie.Need-enum-known-f-4
-enum-known-f-4 c = search needs
+enum-known-f-5 : tie.Need-enum-known-f-5
+enum-known-f-5 c = search needs
 
 pass-requires : tie.Need-pass-requires
 pass-requires c κs = search needs
@@ -58,16 +64,19 @@ returns-3 : tie.Need-returns-3
 returns-3 c = c .take .ensures ∙ rw (c .before .before .before .before .before .before .before .f2 .given .1)
 
 returns-4 : tie.Need-returns-4
-returns-4 c = c .idle .ensures ∙ rw (c .before .before .before .before .before .before .before .f3 .given .1)
+returns-4 c = c .take2 .ensures ∙ rw (c .before .before .before .before .before .before .before .f3 .given .1)
 
 returns-5 : tie.Need-returns-5
-returns-5 c = c .probe .ensures ∙ rw (c .before .before .before .before .before .before .enum-told .given .1)
+returns-5 c = c .idle .ensures ∙ rw (c .before .before .before .before .before .before .before .f4 .given .1)
 
 returns-6 : tie.Need-returns-6
-returns-6 c = c .pass .ensures ∙ rw (c .before .before .before .before .before .before .before .f4 .given .1)
+returns-6 c = c .probe .ensures ∙ rw (c .before .before .before .before .before .before .enum-told .given .1)
 
 returns-7 : tie.Need-returns-7
-returns-7 c = c .announce .ensures ∙ rw (c .before .before .before .before .before .before .enum-told2 .given .1)
+returns-7 c = c .pass .ensures ∙ rw (c .before .before .before .before .before .before .before .f5 .given .1)
+
+returns-8 : tie.Need-returns-8
+returns-8 c = c .announce .ensures ∙ rw (c .before .before .before .before .before .before .enum-told2 .given .1)
 
 pub carry-out-spec : {M : Type 1} → statement M
 carry-out-spec =
@@ -80,10 +89,12 @@ carry-out-spec =
     enum-known-f-2
     take-requires
     enum-known-f-3
+    take-requires-2
+    enum-known-f-4
     idle-requires
     enum-told
     probe-requires
-    enum-known-f-4
+    enum-known-f-5
     pass-requires
     enum-told-2
     announce-requires
@@ -92,4 +103,5 @@ carry-out-spec =
     returns-4
     returns-5
     returns-6
-    returns-7)
+    returns-7
+    returns-8)
