@@ -13,13 +13,15 @@ use Rattle.first_line.proofs.Opens.{first-exact, first-other}
 use Rattle.first_line.specs.Read.{firstAt}
 use Rattle.first_line.specs.Start.{Start, seen, startForm}
 use Rattle.forms.proofs.Steps.{ring-exact, ring-not, tree-exact, tree-not}
-use Rattle.forms.specs.Form.{Form, Says, formText, line, ringForm, treeForm}
+use Rattle.forms.specs.Form.{Form, Says, ack, announce, bareRing, formText, idle, leave, line, pass, probe, ringForm, ringWith, send, takeOne, takeWith, treeForm, treeOf, update}
 use Rattle.forms.specs.Read.{Read, other, read}
 use Rattle.forms.specs.declared.RingStep.{RingStep}
+use Rattle.forms.specs.declared.TreeStep.{TreeStep}
+use Rattle.laws.proofs.Tests.{false-true}
 use Rattle.table_rules.specs.Table.{Table}
 use Rattle.update_forms.proofs.Exact.{wrapped-exact, wrapped-other}
 use Rattle.update_forms.specs.Read.{wrappedAt}
-use Rattle.update_forms.specs.Wrapped.{Wrapped, bare, lists, step, wrappedForm}
+use Rattle.update_forms.specs.Wrapped.{Wrapped, bare, innerForm, lists, step, updateOf, wrappedForm}
 use Rattle.log_rules.proofs.Cuts.{long-told, split-take, unended-told}
 use Rattle.log_rules.proofs.Ends.{ended-append, ended-itself, ended-long, form-ended, unended-append}
 use Rattle.log_rules.proofs.InPlace.{same-told}
@@ -29,6 +31,7 @@ use Rattle.log_rules.specs.Output.{linesTold, restOf}
 use Rattle.log_rules.specs.Pieces.{OneLine, PartLine, empty, newline}
 use Rattle.log_rules.specs.Theorems.{LinesCut, LinesOf, LinesRead, LinesSay}
 use Rattle.forms.specs.declared.RingStep.the-variants as ringStep
+use Rattle.forms.specs.declared.TreeStep.the-variants as treeStep
 use Rattle.ring_rules.specs.State as ring
 use Rattle.log_rules.specs.Pieces as pieces
 use Rattle.log_rules.specs.Theorems as lines
@@ -39,6 +42,10 @@ says-first f l s = (ap line (s .0) ∙ ended-itself (form-ended f), s .1)
 
 pub says-itself : (f : Form) (l : List ℕ) → OneLine l → Says (line l) f → Says l f
 says-itself f l o s = (sym (ended-itself o) ∙ s .0, s .1)
+
+-- a line says one form
+same-form : (l : List ℕ) (f g : Form) → Says l f → Says l g → f ≡ g
+same-form l f g s t = grammar .once f g (s .1) (t .1) (sym (s .0) ∙ t .0)
 
 seen-told : (f : Start) (e : ℕ) (w : Read Wrapped) → freshTold (seen f e .kind) (seen f e) w ≡ firstTold (seen f 0 .kind) (seen f 0)
 seen-told (Start.bare n) e w = refl
@@ -57,7 +64,7 @@ not-wrapped (Start.lists n active black) w p = let z : _≡_ {A = ℕ} 0 1 = cc 
 not-wrapped (Start.tree n root) w p = let z : _≡_ {A = ℕ} 0 1 = cc in let y : ⊥ = omega arith in y
 
 pub start-or-wrapped : (l : List ℕ) (f : Start) (w : Wrapped) → Says l (startForm f) → Says l (wrappedForm w) → ⊥
-start-or-wrapped l f w s t = not-wrapped f w (grammar .once (startForm f) (wrappedForm w) (s .1) (t .1) (sym (s .0) ∙ t .0))
+start-or-wrapped l f w s t = not-wrapped f w (same-form l (startForm f) (wrappedForm w) s t)
 
 first-wrapped : (l : List ℕ) (w : Wrapped) → Says (line l) (wrappedForm w) → firstAt l 0 ≡ other
 first-wrapped l w t = first-other l 0 .1 (λ f s. start-or-wrapped (line l) f w s t)
@@ -78,6 +85,42 @@ update-said :
 unfolding lineTold
 update-said t ms k l w s = rw (wrapped-read l w (says-first (wrappedForm w) l s)) (same-told t ms k w (past w) 0)
 
+-- no step of a ring or of a tree is wrapped
+abbrev isWrapped : Form → Bool
+isWrapped (update u f) = true
+isWrapped (bareRing n) = false
+isWrapped (ringWith n active black) = false
+isWrapped (treeOf n root) = false
+isWrapped (send i j) = false
+isWrapped (takeOne i) = false
+isWrapped (takeWith i k) = false
+isWrapped (idle i) = false
+isWrapped probe = false
+isWrapped (pass i) = false
+isWrapped (ack i) = false
+isWrapped (leave i) = false
+isWrapped announce = false
+
+ring-bare : (f : RingStep) → isWrapped (ringForm f) ≡ false
+ring-bare (ringStep.Send i j) = refl
+ring-bare (ringStep.TakeOne i) = refl
+ring-bare (ringStep.Take i n) = refl
+ring-bare (ringStep.Idle i) = refl
+ring-bare ringStep.Probe = refl
+ring-bare (ringStep.Pass i) = refl
+ring-bare ringStep.Announce = refl
+
+tree-bare : (f : TreeStep) → isWrapped (treeForm f) ≡ false
+tree-bare (treeStep.Send i j) = refl
+tree-bare (treeStep.Take i k) = refl
+tree-bare (treeStep.Idle i) = refl
+tree-bare (treeStep.Ack i) = refl
+tree-bare (treeStep.Leave i) = refl
+tree-bare treeStep.Announce = refl
+
+not-bare : (l : List ℕ) (f : Form) (u : ℕ) (g : Form) → isWrapped f ≡ false → Says (line l) f → Says l (update u g) → ⊥
+not-bare l f u g b s t = false-true (sym b ∙ ap isWrapped (same-form (line l) f (update u g) s (says-first (update u g) l t)))
+
 pub lines-say : LinesSay
 unfolding lineTold
 lines-say = record {
@@ -94,6 +137,10 @@ lines-say = record {
   tree-other = λ t k l o h. rw (tree-not l 0 .1 (λ f s. h f (says-itself (treeForm f) l o s)));
   update-line = update-said;
   update-other = λ t ms k l o h. rw (wrapped-other l 0 .1 (λ w s. h w (says-itself (wrappedForm w) l o s)));
+  ring-wrapped = λ r m k l u f s. rw (ring-not l 0 .1 (λ g t. not-bare l (ringForm g) u f (ring-bare g) t s));
+  tree-wrapped = λ t k l u f s. rw (tree-not l 0 .1 (λ g v. not-bare l (treeForm g) u f (tree-bare g) v s));
+  update-bare = λ t ms k l f ne s.
+      rw (wrapped-other l 0 .1 (λ w v. ne (updateOf w) (innerForm w) (same-form (line l) f (wrappedForm w) (says-first f l s) v)));
   take-one = λ r m k l l′ i s t. ring-said r m k l (ringStep.TakeOne i) s ∙ sym (ring-said r m k l′ (ringStep.Take i 1) t);
   update-take-one = λ t ms k l l′ u i s v.
       update-said t ms k l (step u (ringStep.TakeOne i)) s ∙ sym (update-said t ms k l′ (step u (ringStep.Take i 1)) v);

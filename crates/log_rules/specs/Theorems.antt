@@ -5,9 +5,10 @@ use lib.Dec.{eqb}
 use lib.ListN.{getD, length}
 use mathlib.Core.Bool.{cond}
 use mathlib.Core.List.{List, [], _++_, _∷_}
+use mathlib.Core.Logic.{_≢_}
 use mathlib.Core.Path.{_≡_}
 use Rattle.first_line.specs.Start.{Start, seen, startForm}
-use Rattle.forms.specs.Form.{Says, lineBytes, ringForm, takeOne, takeWith, treeForm, update}
+use Rattle.forms.specs.Form.{Form, Says, lineBytes, ringForm, takeOne, takeWith, treeForm, update}
 use Rattle.forms.specs.Read.{read}
 use Rattle.forms.specs.declared.RingStep.{RingStep}
 use Rattle.forms.specs.declared.TreeStep.{TreeStep}
@@ -43,6 +44,13 @@ pub record LinesSay : Type 0 where
       → lineTold (onTable t ms) k l ≡ tableTold t ms k (read w 0)
   pub update-other :
       (t : Table) (ms : List ℕ) (k : ℕ) (l : List ℕ) → OneLine l → ((w : Wrapped) → Says l (wrappedForm w) → ⊥)
+      → lineTold (onTable t ms) k l ≡ notTold (onTable t ms) k
+  -- Document 02, Q-1: "If the first line is such a start, every line is wrapped; else a wrapped line is 10."
+  pub ring-wrapped :
+      (r : ring.State) (m k : ℕ) (l : List ℕ) (u : ℕ) (f : Form) → Says l (update u f) → lineTold (onRing r m) k l ≡ notTold (onRing r m) k
+  pub tree-wrapped : (t : tree.State) (k : ℕ) (l : List ℕ) (u : ℕ) (f : Form) → Says l (update u f) → lineTold (onTree t) k l ≡ notTold (onTree t) k
+  pub update-bare :
+      (t : Table) (ms : List ℕ) (k : ℕ) (l : List ℕ) (f : Form) → ((u : ℕ) (g : Form) → f ≢ update u g) → Says l f
       → lineTold (onTable t ms) k l ≡ notTold (onTable t ms) k
   -- Document 02, Q-2: "`(take 2)` means one", on a ring and inside an update
   pub take-one :
