@@ -22,10 +22,10 @@ use Rattle.ring_rules.specs.Rules.{Announce, Idle, Kind, Pass, Probe, Send, Tak
 use Rattle.ring_rules.specs.State.{State}
 use Rattle.table_rules.proofs.Keeps.{next-own, taken}
 use Rattle.table_rules.proofs.Slots.{never-started, same-state}
-use Rattle.table_rules.specs.Answers.{Ask, TableAnswer, answerOn, names, slotAfter, updateRows, verdictOn}
+use Rattle.table_rules.specs.Answers.{Ask, TableAnswer, answerOn, names, slotAfter, stepAsk, updateRows, verdictOn}
 use Rattle.table_rules.specs.Table.{NotStarted, Slot, Started, Table, put, slotAt, slotOf}
 use Rattle.lent.specs.Ring.{Lent, lentOf, stateOf}
-use Rattle.lent.specs.Table.{AnsweredTo, Eight, LentTable, askVerdict, fieldsAt, putFields, putSlot, slotIn, stepAsk, tableIn, tableTruths}
+use Rattle.lent.specs.Table.{AnsweredTo, Eight, LentTable, askVerdict, fieldsAt, putFields, putSlot, slotIn, tableIn, tableTruths}
 
 -- ---- the eight places
 

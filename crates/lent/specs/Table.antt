@@ -13,7 +13,7 @@ use Rattle.refusal.specs.Table.{codeOf, settle}
 use Rattle.refusal.specs.declared.Refusal.the-variants.{Unsound}
 use Rattle.refusal.specs.declared.Verdict.{Verdict}
 use Rattle.refusal.specs.declared.Verdict.the-variants.{Refused}
-use Rattle.table_rules.specs.Answers.{Ask, Step, names, slotAfter, verdictOn}
+use Rattle.table_rules.specs.Answers.{Ask, names, slotAfter, verdictOn}
 use Rattle.table_rules.specs.Soundness.{soundTableTest}
 use Rattle.table_rules.specs.Table.{NotStarted, Slot, Started, Table, slotAt, slotOf}
 use Rattle.lent.specs.Ring.{Lent, lent, lentOf, stateOf, truthsTest}
@@ -110,7 +110,3 @@ askFields m a = settle (askVerdict m a) (putSlot m (names a) (slotAfter (slotAt 
 pub record AnsweredTo (m : LentTable) (a : Ask) (number : ℕ) (after : LentTable) : Type 0 where
   pub told : number ≡ askNumber m a
   pub fields : after ≡ askFields m a
-
--- a step by the numbers that are handed in
-abbrev pub stepAsk : ℕ → ℕ → ℕ → ℕ → Ask
-stepAsk u kind i j = Step u (record { kind = kind; i = i; j = j })

@@ -48,6 +48,7 @@ use Rattle.tree_rules.proofs.Start as treeLaws
 use Rattle.tree_rules.proofs.Theorems as treeTheorems
 use Rattle.tree_rules.specs.Start as treeStart
 use Rattle.table_rules.specs.Answers as table
+use Rattle.update_forms.proofs.Exact as forms
 use Rattle.update_forms.specs.Wrapped as wrapped
 
 -- ---- a line asks for one thing
@@ -90,10 +91,7 @@ start-once l f g s t =
     cc
 
 pub wrapped-once : (l : List ℕ) (v w : Wrapped) → Says l (wrappedForm v) → Says l (wrappedForm w) → v ≡ w
-wrapped-once l v w s t =
-    let p = wrapped-exact l 0 v (0 + length (formText (wrappedForm v))) .1 (says-first (wrappedForm v) l s, refl) in
-    let q = wrapped-exact l 0 w (0 + length (formText (wrappedForm w))) .1 (says-first (wrappedForm w) l t, refl) in
-    cc
+wrapped-once l v w s t = forms.wrapped-once v w (s .1 .0) (t .1 .0) (sym (s .0) ∙ t .0)
 
 pub opening-once : (l : List ℕ) (f g : Start ⊎ Wrapped) → Says l (firstForm f) → Says l (firstForm g) → f ≡ g
 opening-once l (inl f) (inl g) s t = ap inl (start-once l f g s t)

@@ -24,6 +24,7 @@ use Rattle.ring_rules.specs.State.{State}
 use Rattle.ring_rules.specs.Theorems.{TokenMove}
 use Rattle.ring_rules.proofs.Start.{fits}
 use Rattle.ring_runs.proofs.Trace.{run-n}
+use Rattle.ring_runs.proofs.WholeRun.{announced-append}
 use Rattle.ring_runs.specs.Agreement.{Reachable, sendsMade, shown}
 use Rattle.ring_runs.specs.Counts.{announcedIn, isAnnounce, kind, ring}
 use Rattle.runs.proofs.Runs.{accepted-append, run-append, run-of}
@@ -37,7 +38,7 @@ use Rattle.table_rules.specs.Soundness.{SoundTable}
 use Rattle.table_rules.specs.Table.{NotStarted, Started, Table, emptyTable, fixed, slotAt}
 use Rattle.table_runs.proofs.Agreement.{runs-agree}
 use Rattle.table_runs.proofs.Updates.{unknown-step}
-use Rattle.table_runs.proofs.WholeRun.{history-on, whole-table}
+use Rattle.table_runs.proofs.WholeRun.{history-append, history-on, whole-table}
 use Rattle.table_runs.specs.Counts.{AcceptsOn, History, QuietIn, begun, historyIn, historyNext, historyOf, startedOf, startsIn, stepsIn, takenOf}
 use Rattle.table_runs.specs.WholeRun.{Counted, FromStart, OneOfTwo, announcement, token-moves}
 use Rattle.log_runs.proofs.Detectors.{ring-only}
@@ -75,10 +76,6 @@ to-append (start u n a b ∷ xs) ys = go (knownBy n a b) (to-append xs ys)
     go true e = ap (λ (l : List asks.Ask). Start u n (flagsTo a b n) ∷ l) e
     go false e = e
 
-history-append : (u : ℕ) (acc more : List asks.Ask) (h : History) → historyIn u h (acc ++ more) ≡ historyIn u (historyIn u h acc) more
-history-append u [] more h = refl
-history-append u (a ∷ acc) more h = history-append u acc more (historyNext u h a)
-
 or-same : (a b c : Bool) → (a || (b || c)) ≡ ((a || b) || c)
 or-same true b c = refl
 or-same false b c = refl
@@ -98,10 +95,6 @@ steps-append u (Step v x ∷ acc) more = rw (steps-append u acc more) (go (eqb v
         ≡ cond b (x ∷ stepsIn u acc) (stepsIn u acc) ++ stepsIn u more
     go true = refl
     go false = refl
-
-announced-append : (xs ys : List Request) → announcedIn (xs ++ ys) ≡ (announcedIn xs || announcedIn ys)
-announced-append [] ys = refl
-announced-append (x ∷ xs) ys = rw (announced-append xs ys) (or-same (isAnnounce (kind x)) (announcedIn xs) (announcedIn ys))
 
 -- from i on
 from : {i : ℕ} (P : ℕ → Type 0) → P i → ((j : ℕ) → i ≤ j → P j → P (suc j)) → (j : ℕ) → i ≤ j → P j

@@ -15,7 +15,7 @@ use Rattle.log_rules.proofs.Cuts.{long-told, rest-full, rest-line, rest-long}
 use Rattle.log_rules.proofs.Ends.{ended-itself, ended-left}
 use Rattle.log_rules.specs.Lines.{lineLimit}
 use Rattle.log_rules.specs.Output.{restOf}
-use Rattle.log_rules.specs.Pieces.{Moves, NoMore, OneLine, PartLine, Went, another, cut, empty, full, heldOf, longBytes, notTold}
+use Rattle.log_rules.specs.Pieces.{NoMore, OneLine, PartLine, Went, another, cut, empty, full, heldOf, longBytes, notTold}
 use Rattle.log_state.specs.Feed.{StandsFor}
 use Rattle.log_rules.specs.Answers as rules
 use Rattle.forms.specs.Form as forms
@@ -107,9 +107,6 @@ told-long s k {l} h en long rest = told-line s k h en (long-told s (k + 1) l (en
 pub first-told : (k : ℕ) (l : List ℕ) → rules.lineTold rules.fresh k l ≡ rules.lineTold rules.fresh 1 l
 unfolding rules.lineTold
 first-told k l = refl
-
-pub later-moves : {ms : List ℕ} {k : ℕ} → Moves ms k → Moves ms (k + 1)
-later-moves m = record { places = m .places; few = λ u. omega (arith, m .few u) }
 
 pub sound-later : (s : rules.Stage) (k : ℕ) → 1 ≤ k → SoundStage s 1 → SoundStage s k
 sound-later rules.fresh k h x = tt

@@ -66,7 +66,7 @@ module _ (ms : List ℕ) (k u x : ℕ) (m : Moves ms k) (h : x ≤ k + 1) where
 pub added-few : (ms : List ℕ) (k u d : ℕ) → Moves ms k → d ≤ 1 → Moves (addAt ms u d) (k + 1)
 added-few ms k u d m h = stored-few ms k u (getD ms u 0 + d) m (omega (arith, m .few u))
 
-later-few : (ms : List ℕ) (k : ℕ) → Moves ms k → Moves ms (k + 1)
+pub later-few : (ms : List ℕ) (k : ℕ) → Moves ms k → Moves ms (k + 1)
 later-few ms k m = record { places = m .places; few = λ v. omega (arith, m .few v) }
 
 pub cleared-few : (ms : List ℕ) (k u : ℕ) (v : Verdict) → Moves ms k → Moves (settle v (set ms u 0) ms) (k + 1)

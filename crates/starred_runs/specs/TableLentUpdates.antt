@@ -4,9 +4,9 @@ use Prim.Native.Nat.{ℕ}
 use lib.ListN.{replicate}
 use mathlib.Core.List.{List, [], _++_, _∷_}
 use Rattle.lent.specs.Ring.{Lent, lent}
-use Rattle.lent.specs.Table.{LentTable, lentTable, stepAsk}
+use Rattle.lent.specs.Table.{LentTable, lentTable}
 use Rattle.signed.specs.Integers.{_⊖_}
-use Rattle.table_rules.specs.Answers.{Ask, Start}
+use Rattle.table_rules.specs.Answers.{Ask, Start, stepAsk}
 use Rattle.starred_runs.specs.Case.{Case, lent-table, lent-table-sound}
 use Rattle.starred_runs.specs.TableLent.{busy, quiet, three}
 
@@ -67,9 +67,13 @@ steps =
     -- of update 7: sent of 0 and pending of 2 rise
     lent-table handed (stepAsk 7 1 0 2) 0
     (columns first (lent 3 (three 1 0 0) (3 ∷ replicate 11 0) (three 6 6 7) (three 3 4 2) (three 2 1 7) 2 (0 ⊖ 0) 1 0))
-    -- pending of 2 falls, received rises, 2 becomes active and black
-    ∷ lent-table handed (stepAsk 7 2 2 9) 0
-    (columns first (lent 3 (three 1 0 1) (7 ∷ replicate 11 0) (three 5 6 7) (three 3 4 3) (three 2 1 5) 2 (0 ⊖ 0) 1 0))
+    -- pending of 2 falls by 4, received rises by 4, 2 becomes active and black
+    ∷ lent-table handed (stepAsk 7 2 2 4) 0
+    (columns first (lent 3 (three 1 0 1) (7 ∷ replicate 11 0) (three 5 6 7) (three 3 4 6) (three 2 1 2) 2 (0 ⊖ 0) 1 0))
+    -- 4294967297 is 1 in its lowest 32 bits
+    ∷ keeps handed (stepAsk 7 2 2 0) 8
+    ∷ keeps handed (stepAsk 7 2 2 7) 8
+    ∷ keeps handed (stepAsk 7 2 2 4294967297) 8
     -- q gains 7 - 2, the token is at 1
     ∷ lent-table handed (stepAsk 7 5 2 9) 0 (columns first (busy (three 1 0 0) 3 1 (5 ⊖ 0) 1 0))
     -- of update 0

@@ -16,10 +16,10 @@ ghost use mathlib.Core.List.{[]};
 ghost use Rattle.laws.specs.Places.{allTo};
 ghost use Rattle.flag_bytes.specs.Flags.{areFlags, isFlag};
 ghost use Rattle.lent.specs.Ring.{lentOf, stateOf};
-ghost use Rattle.lent.specs.Table.{lentTable, fieldsAt, putFields, tableIn, tableSoundNumber, AnsweredTo, stepAsk};
+ghost use Rattle.lent.specs.Table.{lentTable, fieldsAt, putFields, tableIn, tableSoundNumber, AnsweredTo};
 ghost use Rattle.ring.specs.View.{state};
 ghost use Rattle.table.specs.View.{slotBy, tableBy};
-ghost use Rattle.table_rules.specs.Answers.{Start};
+ghost use Rattle.table_rules.specs.Answers.{Start, stepAsk};
 ghost use Rattle.table_rules.specs.Table.{slotAt};
 
 // Is an update of n nodes not started, or are the bytes of its truths each 0 or 1?

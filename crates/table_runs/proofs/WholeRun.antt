@@ -47,7 +47,7 @@ history-on u (Step v x ∷ acc) h e = go (eqb v u) (λ (k : History). history-on
     go true ih = ih _ ∙ ap (λ (l : List Request). record { first = h .first; taken = l }) (append-assoc (h .taken) (x ∷ []) (stepsIn u acc))
     go false ih = ih h
 
-history-append : (u : ℕ) (acc more : List Ask) (h : History) → historyIn u h (acc ++ more) ≡ historyIn u (historyIn u h acc) more
+pub history-append : (u : ℕ) (acc more : List Ask) (h : History) → historyIn u h (acc ++ more) ≡ historyIn u (historyIn u h acc) more
 history-append u [] more h = refl
 history-append u (a ∷ acc) more h = history-append u acc more (historyNext u h a)
 

@@ -8,7 +8,7 @@ use Rattle.log_text.proofs.Texts.{answer-short}
 use Rattle.refusal.specs.declared.Refusal.the-variants.{NotAForm}
 use Rattle.refusal.specs.declared.Verdict.the-variants.{Refused}
 use Rattle.log_state.proofs.Feeds.{long-held, went-held}
-use Rattle.log_state.proofs.Held.{later-moves}
+use Rattle.log_table.proofs.Laws.{later-few}
 use Rattle.log_state.proofs.held_table.Statement.{statement}
 use Rattle.log_rules.specs.Answers as rules
 use Rattle.table.specs.View as view
@@ -35,7 +35,7 @@ returns c =
     let p = start .pre in let a = start .args in
     long-held (rules.onTable (view.table (a .table)) (a .each)) _ (at-if1 .if1 .taken) (p .0 .under) refl refl (c .before .before .put-answer .ensures)
     (answer-short (a .lines + 1) (Refused NotAForm) (omega (arith, p .0 .under)))
-    (record { sound = (p .1 .0, later-moves (p .1 .1)); begun = tt; empty = refl })
+    (record { sound = (p .1 .0, later-few _ _ (p .1 .1)); begun = tt; empty = refl })
 
 slice-aggregate-table-piece : tie.Need-slice-aggregate-table-piece
 slice-aggregate-table-piece c = sym (length-take-le _ _ (omega (arith, c .before .before .before .before .pre .0 .places)))

@@ -2,10 +2,10 @@ use mathlib.Core.Path.{_∙_, ap}
 use Rattle.laws.proofs.Tests.{told-false, told-true}
 use Rattle.lent.proofs.Table.{table-accepted, table-inside, table-kind-same, table-refused, table-unflagged}
 use Rattle.lent.specs.Ring.{truthsTest}
-use Rattle.lent.specs.Table.{lentTable, tableTruths, stepAsk, tableIn}
+use Rattle.lent.specs.Table.{lentTable, tableTruths, tableIn}
 use Rattle.ring.specs.View.{state}
 use Rattle.table.specs.View.{answer}
-use Rattle.table_rules.specs.Answers.{answerOn}
+use Rattle.table_rules.specs.Answers.{answerOn, stepAsk}
 use Rattle.table_rules.specs.Table.{Table}
 use borrow.Author.Needs.{needs}
 use Rattle.table_exports.proofs.muzserlik_table_step_fields.Statement.{statement}
