@@ -1,4 +1,4 @@
-//! The forms of the log's lines: paper, "The log program", and request Q-1. A form is judged by its bytes alone.
+//! The forms of the log's lines: paper, "The log program", and requests. A form is judged by its bytes alone.
 
 use crate::decimal;
 use crate::refusal::Refusal;
@@ -137,7 +137,7 @@ fn ring_step(form: &[u8]) -> Result<Request, Refusal> {
     let (word, numbers) = split_word(form);
     match word {
         b"send" => two(SEND, numbers),
-        b"take" => one(TAKE, numbers),
+        b"take" => ring_take(numbers),
         b"idle" => one(IDLE, numbers),
         b"probe" => none(PROBE, numbers),
         b"pass" => one(PASS, numbers),
@@ -183,6 +183,18 @@ fn two(kind: usize, mut items: Items) -> Result<Request, Refusal> {
     let j = items.spaced_number()?;
     items.end()?;
     Ok(Request::new(kind, i, j))
+}
+
+/// A node, and how many messages it takes: one where that is not said.
+fn ring_take(mut items: Items) -> Result<Request, Refusal> {
+    let i = items.spaced_number()?;
+    let messages = if items.rest.is_empty() {
+        1
+    } else {
+        items.spaced_number()?
+    };
+    items.end()?;
+    Ok(Request::new(TAKE, i, messages))
 }
 
 /// The items of a form, read from the left.

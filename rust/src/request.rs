@@ -16,12 +16,12 @@ pub const ANNOUNCE: usize = 6;
 /// Sends that one run accepts: refusal 9.
 pub const SEND_LIMIT: u32 = 1_000_000;
 
-/// A step's kind and node numbers; those that the kind does not use are not read.
+/// A step's kind and numbers; those that the kind does not use are not read.
 #[derive(Clone, Copy, Debug, PartialEq, Eq)]
 pub struct Request {
     pub kind: usize,
     pub i: usize,
-    /// The receiver of a send, the sender of a tree's take.
+    /// The receiver of a send, the sender of a tree's take, how many messages a ring's take is of.
     pub j: usize,
 }
 

@@ -1,4 +1,4 @@
-//! Safra's termination detection on a ring: paper, "The ring" and "The driver".
+//! Safra's termination detection on a ring: paper, "The ring" and "The driver", and request Q-2.
 
 use crate::refusal::{require, Refusal};
 use crate::request::{Request, ANNOUNCE, IDLE, PASS, PROBE, SEND, SEND_LIMIT, TAKE};
@@ -8,6 +8,8 @@ pub const MAX_NODES: usize = 96;
 pub const COLOR_BYTES: usize = MAX_NODES / 8;
 /// The largest move limit of the driver: refusal 11.
 pub const MOVE_LIMIT: usize = 1_000;
+/// The most messages of one take.
+pub const TAKE_LIMIT: usize = 1_000;
 /// What a node's counter adds to q, at most.
 const COUNTER_LIMIT: u64 = 1_000_000;
 
@@ -225,7 +227,7 @@ impl Ring {
         let Request { kind, i, j } = request;
         match kind {
             SEND => self.send(i, j, sends),
-            TAKE => self.take(i),
+            TAKE => self.take(i, j),
             IDLE => self.idle(i),
             PROBE => self.probe(),
             PASS => self.pass(i),
@@ -258,12 +260,14 @@ impl Ring {
         Ok(())
     }
 
-    /// Rule 2.
-    fn take(&mut self, i: usize) -> Result<(), Refusal> {
+    /// Rule 2, of so many messages at once.
+    fn take(&mut self, i: usize, messages: usize) -> Result<(), Refusal> {
         self.check_node(i)?;
-        require(self.pending[i] > 0)?;
-        self.pending[i] -= 1;
-        self.received[i] += 1;
+        require((1..=TAKE_LIMIT).contains(&messages))?;
+        let messages = messages as u32;
+        require(messages <= self.pending[i])?;
+        self.pending[i] -= messages;
+        self.received[i] += messages;
         self.active[i] = true;
         self.set_black(i, true);
         Ok(())

@@ -9,6 +9,8 @@
 //! - InitiateProbe gives one successor for each true disjunct of its condition.
 //!
 //! No other way of counting agrees with the published table.
+//!
+//! RecvMsg is a take of one message. In every state a take of more of them is as many of these in a row: request Q-2.
 
 use crate::report::Report;
 use crate::request::{Request, ANNOUNCE, IDLE, PASS, PROBE, SEND, TAKE};
@@ -60,6 +62,7 @@ pub fn walk(mut step: impl FnMut(&Ring, Request) -> Option<Ring>) -> Figures {
         for state in level {
             let ring = unpack(state);
             check_announce(&ring, step(&ring, Request::new(ANNOUNCE, 0, 0)).is_some());
+            check_takes(&ring, &mut step);
             for &request in &requests {
                 let Some(next) = step(&ring, request) else {
                     continue;
@@ -83,12 +86,12 @@ pub fn walk(mut step: impl FnMut(&Ring, Request) -> Option<Ring>) -> Figures {
 }
 
 /// Every request for an action of EWD998's Next, and some that never are one
-/// and must be refused: a send to oneself and a pass by node 0.
+/// and must be refused: a send to oneself, a take of no message and a pass by node 0.
 fn requests() -> Vec<Request> {
     let mut requests = vec![Request::new(PROBE, 0, 0)];
     for i in 0..N {
-        for kind in [TAKE, IDLE, PASS] {
-            requests.push(Request::new(kind, i, 0));
+        for (kind, j) in [(TAKE, 0), (TAKE, 1), (IDLE, 0), (PASS, 0)] {
+            requests.push(Request::new(kind, i, j));
         }
         for j in 0..N {
             requests.push(Request::new(SEND, i, j));
@@ -140,6 +143,20 @@ fn check_announce(ring: &Ring, accepted: bool) {
     let terminated = (0..N).all(|i| !ring.active[i] && ring.pending[i] == 0);
     assert_eq!(accepted, detected, "announcement: {ring:?}");
     assert!(!detected || terminated, "TerminationDetection: {ring:?}");
+}
+
+/// Takes of two messages or more, one more than are on their way among them: each is as many takes of one in a row.
+fn check_takes(ring: &Ring, step: &mut impl FnMut(&Ring, Request) -> Option<Ring>) {
+    for i in 0..N {
+        let mut singly = Some(ring.clone());
+        for messages in 1..=ring.pending[i] as usize + 1 {
+            singly = singly.and_then(|ring| step(&ring, Request::new(TAKE, i, 1)));
+            if messages > 1 {
+                let at_once = step(ring, Request::new(TAKE, i, messages));
+                assert_eq!(at_once, singly, "take of {messages} by {i}: {ring:?}");
+            }
+        }
+    }
 }
 
 /// A state of the model in 36 bits: for each node active, color, pending (2 bits)

@@ -2,7 +2,7 @@
 
 use second::log::{LINE_BYTES, LINE_LIMIT};
 use second::request::SEND_LIMIT;
-use second::ring::{self, MOVE_LIMIT};
+use second::ring::{self, MOVE_LIMIT, TAKE_LIMIT};
 use second::table::UPDATES;
 use second::tree;
 
@@ -12,5 +12,6 @@ fn limits_of_the_paper() {
     assert_eq!((tree::MAX_NODES, tree::NONE), (16, 16));
     assert_eq!(UPDATES, 8);
     assert_eq!((SEND_LIMIT, MOVE_LIMIT), (1_000_000, 1_000));
+    assert_eq!(TAKE_LIMIT, 1_000);
     assert_eq!((LINE_LIMIT, LINE_BYTES), (1_000_000, 700));
 }

@@ -197,7 +197,19 @@ fn ring_lines_that_are_not_a_form() {
         "(send 0 +1)",
         "(send 0,1)",
         "(take)",
-        "(take 1 0)",
+        "(take )",
+        "(take 1 )",
+        "(take  1)",
+        "(take 1  5)",
+        "(take 1 05)",
+        "(take 1 00)",
+        "(take 1 100000)",
+        "(take 1 5 1)",
+        "(take 1 5 )",
+        "(take 1 -5)",
+        "(take 1,5)",
+        "(take 1 5",
+        "(Take 1 5)",
         "(ack 0)",
         "(leave 1)",
         "(announce 0)",
@@ -217,8 +229,11 @@ fn ring_lines_that_are_not_a_form() {
 #[test]
 fn tree_lines_that_are_not_a_form() {
     for line in [
+        "(take)",
         "(take 1)",
         "(take 1 0 0)",
+        "(take 1 0 1)",
+        "(take 1 00)",
         "(probe)",
         "(pass 1)",
         "(ack)",
@@ -242,6 +257,38 @@ fn steps_are_judged_in_the_order_of_the_table() {
     check(
         "(tree 2 (root 1)), (send 2 2), (send 0 0), (send 0 1), (take 0 2), (take 0 1), (ack 1), (leave 1), (leave 0), (idle 1), (announce), (ack 7)",
         "(ok 1), (no 2 6), (no 3 7), (no 4 8), (no 5 6), (no 6 8), (no 7 8), (no 8 8), (no 9 8), (ok 10), (ok 11), (no 12 4), (end (boards 2) (engaged (1)) (acks 0))",
+    );
+}
+
+/// Three messages on their way to node 1, then as many as a take says; `(take 1)` is `(take 1 1)`.
+#[test]
+fn takes_of_several() {
+    check(
+        "(ring 3 (active 0) (black)), (send 0 1), (send 0 1), (send 0 1), (take 1 4), (take 1 0), (take 1 1001), (take 1 99999), (take 3 1), (take 99999 0), (take 1 2), (take 1 2), (take 1 1), (take 1 1), (take 1)",
+        "(ok 1), (ok 2), (ok 3), (ok 4), (no 5 8), (no 6 8), (no 7 8), (no 8 8), (no 9 6), (no 10 6), (ok 11), (no 12 8), (ok 13), (no 14 8), (no 15 8), (end (boards 3) (holder 0) (moves 0) (flight 0) (black 1))",
+    );
+    check(
+        "(ring 2 (active 0) (black)), (send 0 1), (send 0 1), (send 0 1), (take 1), (take 1 1), (idle 0), (idle 1), (take 1), (take 1)",
+        "(ok 1), (ok 2), (ok 3), (ok 4), (ok 5), (ok 6), (ok 7), (ok 8), (ok 9), (no 10 8), (end (boards 2) (holder 0) (moves 0) (flight 0) (black 1))",
+    );
+}
+
+/// 1,001 messages on their way: a take of all of them is too large, one of 1,000 is not.
+#[test]
+fn the_largest_take() {
+    let sends = "(send 0 1)\n".repeat(1_001);
+    let log = format!("(ring 2 (active 0) (black))\n{sends}(take 1 1001)\n(take 1 1000)\n(take 1 2)\n(take 1 1)\n");
+    assert!(answers(log.as_bytes()).ends_with(
+        "(ok 1002)\n(no 1003 8)\n(ok 1004)\n(no 1005 8)\n(ok 1006)\n(end (boards 2) (holder 0) (moves 0) (flight 0) (black 1))\n"
+    ));
+}
+
+/// A tree's take names the sender, not a number of messages.
+#[test]
+fn a_trees_take_is_of_one_message() {
+    check(
+        "(tree 3 (root 2)), (send 2 1), (send 2 1), (take 1 0), (take 1 1), (take 1 2), (take 1), (take 1 3), (take 1 2), (take 1 2)",
+        "(ok 1), (ok 2), (ok 3), (no 4 8), (no 5 8), (ok 6), (no 7 10), (no 8 6), (ok 9), (no 10 8), (end (boards 3) (engaged (2 (1))) (acks 1))",
     );
 }
 

@@ -1,8 +1,8 @@
-//! The ring by calls: starts, soundness, the six rules and the driver.
+//! The ring by calls: starts, soundness, the six rules, takes of several messages and the driver.
 
 use second::refusal::Refusal;
 use second::request::{Request, ANNOUNCE, IDLE, PASS, PROBE, SEND, SEND_LIMIT, TAKE};
-use second::ring::{Drive, Reason, Ring, Token, MAX_NODES, MOVE_LIMIT};
+use second::ring::{Drive, Reason, Ring, Token, MAX_NODES, MOVE_LIMIT, TAKE_LIMIT};
 
 mod common;
 
@@ -75,7 +75,7 @@ fn receipt_behind_the_token_takes_seven_moves() {
             (PROBE, 0, 0),
             (PASS, 2, 0),
             (SEND, 1, 2),
-            (TAKE, 2, 0),
+            (TAKE, 2, 1),
             (IDLE, 1, 0),
             (IDLE, 2, 0),
         ],
@@ -95,7 +95,7 @@ fn receipt_before_the_token_takes_five_moves() {
         &[
             (PROBE, 0, 0),
             (SEND, 2, 0),
-            (TAKE, 0, 0),
+            (TAKE, 0, 1),
             (IDLE, 0, 0),
             (IDLE, 2, 0),
         ],
@@ -206,7 +206,85 @@ fn take_blackens_and_activates() {
     expected.received[1] = 1;
     expected.active[1] = true;
     expected.color[0] = 0b10;
-    assert_eq!(after(before, &[(TAKE, 1, 0)]), expected);
+    assert_eq!(after(before, &[(TAKE, 1, 1)]), expected);
+}
+
+/// Node 0 has sent so many messages to node 1, one of which is taken.
+fn with_pending(pending: u32) -> Ring {
+    let mut ring = start(&[ACTIVE, 0]);
+    ring.sent[0] = pending + 1;
+    ring.received[1] = 1;
+    ring.pending[1] = pending;
+    assert!(ring.is_sound());
+    ring
+}
+
+#[test]
+fn take_of_several_moves_them_all() {
+    let before = with_pending(7);
+    let mut expected = before.clone();
+    expected.pending[1] = 2;
+    expected.received[1] = 6;
+    expected.active[1] = true;
+    expected.color[0] = 0b10;
+    assert_eq!(after(before, &[(TAKE, 1, 5)]), expected);
+    assert_refused(&expected, (TAKE, 1, 3), Refusal::RuleFails);
+    let emptied = after(expected, &[(TAKE, 1, 2)]);
+    assert_eq!((emptied.pending[1], emptied.received[1]), (0, 8));
+    assert_eq!((emptied.counter(0), emptied.counter(1)), (8, -8));
+}
+
+#[test]
+fn take_of_several_is_as_many_takes_in_a_row() {
+    for messages in 1..=9 {
+        let singly = after(with_pending(9), &vec![(TAKE, 1, 1); messages]);
+        assert_eq!(after(with_pending(9), &[(TAKE, 1, messages)]), singly);
+    }
+    assert_refused(&with_pending(9), (TAKE, 1, 10), Refusal::RuleFails);
+}
+
+#[test]
+fn take_refuses_numbers_outside_its_range() {
+    let ring = with_pending(1_500);
+    let wide = [1 << 32, 1 << 32 | 1, 1 << 32 | 5, usize::MAX];
+    for messages in [0, TAKE_LIMIT + 1, 1_500, 1_501].into_iter().chain(wide) {
+        assert_refused(&ring, (TAKE, 1, messages), Refusal::RuleFails);
+        // A node of N or more is told first, and the number is no node.
+        assert_refused(&ring, (TAKE, 2, messages), Refusal::UnknownNode);
+    }
+    let ring = after(ring, &[(TAKE, 1, TAKE_LIMIT)]);
+    assert_eq!((ring.pending[1], ring.received[1]), (500, 1_001));
+    assert_refused(&ring, (TAKE, 1, 501), Refusal::RuleFails);
+    assert_refused(&ring, (TAKE, 1, TAKE_LIMIT), Refusal::RuleFails);
+    after(ring, &[(TAKE, 1, 500)]);
+}
+
+/// A take is never refused with 9, and closed and unsound states are told before its number.
+#[test]
+fn take_of_several_in_the_order_of_the_table() {
+    let mut ring = with_pending(5);
+    ring.sent[0] = SEND_LIMIT;
+    ring.received[1] = SEND_LIMIT - 5;
+    let ring = after(ring, &[(TAKE, 1, 5)]);
+    assert_eq!((ring.received[1], ring.pending[1]), (SEND_LIMIT, 0));
+    let closed = after(start(&[0]), &[(PROBE, 0, 0), (ANNOUNCE, 0, 0)]);
+    assert_refused(&closed, (TAKE, 0, 0), Refusal::Closed);
+    let mut unsound = with_pending(5);
+    unsound.pending[1] = 6;
+    assert_refused(&unsound, (TAKE, 1, 0), Refusal::Unsound);
+}
+
+/// Five messages behind the token are taken at once: their counters add up to 0, and the colors tell.
+#[test]
+fn take_of_several_behind_the_token() {
+    let mut steps = vec![(PROBE, 0, 0), (PASS, 2, 0)];
+    steps.extend([(SEND, 1, 2); 5]);
+    steps.extend([(TAKE, 2, 5), (IDLE, 1, 0), (PASS, 1, 0)]);
+    let ring = after(start(&[0, ACTIVE, 0]), &steps);
+    assert_eq!((ring.token.q, ring.counter(2)), (5, -5));
+    assert_refused(&ring, (ANNOUNCE, 0, 0), Refusal::RuleFails);
+    let quiet = after(ring, &[(IDLE, 2, 0)]);
+    assert_eq!(driven(&quiet, MOVE_LIMIT).0, drive(Reason::Conclusive, 6));
 }
 
 #[test]
@@ -273,7 +351,7 @@ fn refusals_in_the_order_of_the_table() {
     assert_refused(&open, (SEND, 0, 0), Refusal::SelfMessage);
     assert_refused(&open, (SEND, 2, 2), Refusal::SelfMessage);
     assert_refused(&open, (SEND, 2, 0), Refusal::RuleFails);
-    assert_refused(&open, (TAKE, 1, 0), Refusal::RuleFails);
+    assert_refused(&open, (TAKE, 1, 1), Refusal::RuleFails);
     assert_refused(&open, (IDLE, 1, 0), Refusal::RuleFails);
     assert_refused(&open, (PASS, 0, 0), Refusal::RuleFails);
     // Numbers that a kind does not use are not read.
@@ -299,7 +377,7 @@ fn send_limit() {
     let ring = after(ring, &[(SEND, 0, 1)]);
     assert_refused(&ring, (SEND, 0, 1), Refusal::SendLimit);
     assert_refused(&ring, (SEND, 1, 0), Refusal::RuleFails);
-    let ring = after(ring, &[(TAKE, 1, 0), (TAKE, 1, 0)]);
+    let ring = after(ring, &[(TAKE, 1, 1), (TAKE, 1, 1)]);
     assert_eq!((ring.received[1], ring.pending[1]), (SEND_LIMIT, 0));
     assert_refused(&ring, (SEND, 1, 0), Refusal::SendLimit);
 }

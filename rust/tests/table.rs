@@ -1,4 +1,4 @@
-//! A table of eight updates: request Q-1.
+//! A table of eight updates: requests.
 
 use second::refusal::Refusal;
 use second::request::{Request, ANNOUNCE, IDLE, PASS, PROBE, SEND, SEND_LIMIT, TAKE};
@@ -115,7 +115,36 @@ fn each_update_is_announced_by_itself() {
     );
     assert_eq!(table.start(4, 3, &[0, 0, 1]), Ok(()));
     assert_eq!(table.step(4, send(2, 1)), Ok(()));
-    assert_eq!(table.step(1, Request::new(TAKE, 1, 0)), Ok(()));
+    assert_eq!(table.step(1, Request::new(TAKE, 1, 1)), Ok(()));
+}
+
+/// Update 1 has 1,200 messages on their way to node 2, update 4 has three.
+#[test]
+fn each_update_takes_from_its_own_inbox() {
+    let mut table = started(&[1, 4]);
+    for (update, messages) in [(1, 1_200), (4, 3)] {
+        let ring = table.updates[update].as_mut().unwrap();
+        ring.sent[0] = messages;
+        ring.pending[2] = messages;
+    }
+    let take = |messages| Request::new(TAKE, 2, messages);
+    for messages in [0, 1_001, 1_200, 1 << 32 | 1, usize::MAX] {
+        refused(&table, Refusal::RuleFails, |t| t.step(1, take(messages)));
+        refused(&table, Refusal::UnknownUpdate, |t| {
+            t.step(0, take(messages))
+        });
+    }
+    refused(&table, Refusal::RuleFails, |t| t.step(4, take(4)));
+    let mut expected = table.clone();
+    let ring = expected.updates[1].as_mut().unwrap();
+    (ring.pending[2], ring.received[2]) = (200, 1_000);
+    (ring.active[2], ring.color[0]) = (true, 0b100);
+    assert_eq!(table.step(1, take(1_000)), Ok(()));
+    assert_eq!(table, expected);
+    refused(&table, Refusal::RuleFails, |t| t.step(1, take(201)));
+    assert_eq!(table.step(4, take(3)), Ok(()));
+    assert_eq!(table.step(1, take(200)), Ok(()));
+    assert!(table.is_sound());
 }
 
 #[test]
@@ -153,7 +182,7 @@ fn the_limit_of_sends_is_of_all_together() {
         refused(&table, Refusal::RuleFails, |t| t.step(update, send(1, 0)));
         refused(&table, Refusal::SelfMessage, |t| t.step(update, send(1, 1)));
     }
-    assert_eq!(table.step(2, Request::new(TAKE, 1, 0)), Ok(()));
+    assert_eq!(table.step(2, Request::new(TAKE, 1, 1)), Ok(()));
     assert_eq!(table.start(4, 3, &[1, 0, 0]), Ok(()));
     refused(&table, Refusal::SendLimit, |t| t.step(4, send(0, 1)));
     refused(&table, Refusal::NodeCount, |t| t.start(2, 4, &[0; 4]));

@@ -1,4 +1,4 @@
-//! Logs of updates: request Q-1, "The log".
+//! Logs of updates: request Q-1, "The log", and request Q-2.
 
 use second::log::{run, Log, LINE_BYTES, LINE_LIMIT};
 use second::ring::MAX_NODES;
@@ -108,6 +108,21 @@ fn later_lines_that_are_refused() {
         ("(update 2 (send 0 2))", 6),
         ("(update 2 (send 1 1))", 7),
         ("(update 2 (take 1))", 8),
+        ("(update 2 (take 1 1))", 8),
+        ("(update 2 (take 1 0))", 8),
+        ("(update 2 (take 1 1001))", 8),
+        ("(update 2 (take 1 99999))", 8),
+        ("(update 2 (take 2 0))", 6),
+        ("(update 0 (take 2 0))", 13),
+        ("(update 8 (take 2 1001))", 13),
+        ("(update 2 (take))", 10),
+        ("(update 2 (take 1 ))", 10),
+        ("(update 2 (take 1  5))", 10),
+        ("(update 2 (take 1 05))", 10),
+        ("(update 2 (take 1 100000))", 10),
+        ("(update 2 (take 1 5 1))", 10),
+        ("(update 2 (take 1 5)", 10),
+        ("(take 1 5)", 10),
         ("(update 100000 (probe))", 10),
         ("(update 02 (probe))", 10),
         ("(update 2 (probe)", 10),
@@ -126,6 +141,15 @@ fn later_lines_that_are_refused() {
         let expected = format!("(ok 1)\n(no 2 {number})\n(update 2 {BLANK})\n");
         assert_eq!(answers(log.as_bytes()), expected, "{line}");
     }
+}
+
+/// Two updates with messages of their own on their way to node 1.
+#[test]
+fn takes_of_several() {
+    check(
+        "(update 2 (ring 2 (active 0) (black))), (update 0 (ring 2 (active 0) (black))), (update 2 (send 0 1)), (update 0 (send 0 1)), (update 2 (send 0 1)), (update 2 (send 0 1)), (update 0 (take 1 2)), (update 2 (take 1 2)), (update 2 (take 1 2)), (update 0 (take 1 1)), (update 2 (take 1))",
+        "(ok 1), (ok 2), (ok 3), (ok 4), (ok 5), (ok 6), (no 7 8), (ok 8), (no 9 8), (ok 10), (ok 11), (update 0 (end (boards 2) (holder 0) (moves 0) (flight 0) (black 1))), (update 2 (end (boards 2) (holder 0) (moves 0) (flight 0) (black 1)))",
+    );
 }
 
 #[test]

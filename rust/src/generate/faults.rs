@@ -43,7 +43,7 @@ const BYTES: &[u8] = b"()  0123456789abcdeghiklnoprstuvwAZ\t\r\n\0\x0b\x7f\x80\x
 pub fn damaged(rng: &mut Rng, good: &[u8]) -> Vec<u8> {
     let mut line = good.to_vec();
     let at = rng.below(line.len());
-    let number_at = line.iter().position(u8::is_ascii_digit);
+    let number_at = any_number(rng, &line);
     match rng.below(14) {
         0 => line[at] ^= 1 << rng.below(8),
         1 => line[at] = rng.pick(BYTES),
@@ -63,6 +63,12 @@ pub fn damaged(rng: &mut Rng, good: &[u8]) -> Vec<u8> {
     line
 }
 
+/// Where a number of the line begins, if it has one.
+fn any_number(rng: &mut Rng, line: &[u8]) -> Option<usize> {
+    let is_digit = |k: usize| line[k].is_ascii_digit();
+    rng.node(line.len(), |k| is_digit(k) && (k == 0 || !is_digit(k - 1)))
+}
+
 fn insert_at_number(line: &mut Vec<u8>, number_at: Option<usize>, bytes: &[u8]) {
     if let Some(at) = number_at {
         line.splice(at..at, bytes.iter().copied());
@@ -76,7 +82,7 @@ fn noise(rng: &mut Rng) -> Vec<u8> {
 }
 
 /// Forms of both detectors, and some that are none.
-const FORMS: [&str; 30] = [
+const FORMS: [&str; 38] = [
     "(send 0 1)",
     "(send 0)",
     "(send)",
@@ -84,6 +90,14 @@ const FORMS: [&str; 30] = [
     "(take 1)",
     "(take 1 0)",
     "(take)",
+    "(take 1 )",
+    "(take 1 5)",
+    "(take 1  5)",
+    "(take 1 05)",
+    "(take 1 1001)",
+    "(take 1 100000)",
+    "(take 1 5 1)",
+    "(take 1 0 1)",
     "(idle 0)",
     "(idle)",
     "(idle 0 1)",

@@ -3,6 +3,7 @@
 //! The same seed and size give the same log.
 
 mod faults;
+mod inbox;
 mod limits;
 mod model;
 mod relay;
@@ -20,6 +21,7 @@ use crate::request::{Request, ANNOUNCE, IDLE, SEND, TAKE};
 use crate::ring;
 use crate::tree;
 use faults::Fault;
+use inbox::full_inbox;
 use limits::limit;
 use relay::Relay;
 use starts::{refused_start, CAUSES};
@@ -35,6 +37,7 @@ const fn mix(random: usize, tempting: usize, faults: usize, fault: Fault) -> Mix
         fault,
         messages: u64::MAX,
         eager: if tempting > 0 { 10 } else { 0 },
+        several: 40,
     }
 }
 
@@ -72,8 +75,11 @@ const NEAR_THE_END: Mix = Mix {
 };
 /// A large log, a log past the limit of lines.
 const LARGE: Mix = mix(5, 10, 3, Fault::Noise);
-/// A benchmark log: about one line in ten is a random request.
-const BENCHMARK: Mix = mix(10, 0, 0, Fault::Noise);
+/// A benchmark log: about one line in ten is a random request, and takes are of one message.
+const BENCHMARK: Mix = Mix {
+    several: 0,
+    ..mix(10, 0, 0, Fault::Noise)
+};
 
 /// Small rings mostly: the token goes round them often.
 fn ring_size(rng: &mut Rng) -> usize {
@@ -105,10 +111,10 @@ fn started(rng: &mut Rng, turn: usize) -> Writer {
 }
 
 /// The seeds take turns: guided runs with each mix on a ring and on a tree, long lines,
-/// large runs, listed limits, late receipts, relays, and first lines refused for each cause.
+/// large runs, listed limits, late receipts, relays, full inboxes, and first lines refused for each cause.
 const MIXED: usize = 2 * MIXES.len();
 const LATE: usize = 5;
-const TURNS: usize = MIXED + 7 + LATE + CAUSES;
+const TURNS: usize = MIXED + 8 + LATE + CAUSES;
 
 /// The log of a seed, of about `size` lines on the average.
 pub fn log(seed: u64, size: usize) -> Vec<u8> {
@@ -135,13 +141,18 @@ pub fn log(seed: u64, size: usize) -> Vec<u8> {
             let writer = Relay::new(&mut rng).run(&mut rng, 4 * size);
             writer.end(&mut rng, 0, NEAR_THE_END)
         }
-        cause => refused_start(&mut rng, cause - 7 - LATE, round),
+        12 => {
+            let n = ring_size(&mut rng).max(2);
+            let writer = full_inbox(&mut rng, n);
+            writer.end(&mut rng, 0, NEAR_THE_END)
+        }
+        cause => refused_start(&mut rng, cause - 8 - LATE, round),
     }
 }
 
 /// The seeds take turns here too: updates with each mix, long lines, large rings, a bare ring and a bare tree with lines
-/// of updates, listed limits, and first lines refused for each cause.
-const UPDATE_TURNS: usize = MIXES.len() + 6 + UPDATE_CAUSES;
+/// of updates, listed limits, full inboxes, and first lines refused for each cause.
+const UPDATE_TURNS: usize = MIXES.len() + 7 + UPDATE_CAUSES;
 
 /// The log of updates of a seed, of about `size` lines on the average; or a bare log with lines of updates.
 pub fn updates_log(seed: u64, size: usize) -> Vec<u8> {
@@ -169,7 +180,13 @@ pub fn updates_log(seed: u64, size: usize) -> Vec<u8> {
             started(&mut rng, bare).whole_run(&mut rng, lines, WRAPPED_LINES)
         }
         5 => update_limit(&mut rng, round),
-        cause => refused_update(&mut rng, cause - 6, round),
+        6 => {
+            let n = ring_size(&mut rng).max(2);
+            let mut updates = Updates::new(&mut rng, n);
+            updates.full_inbox(&mut rng);
+            updates.finish()
+        }
+        cause => refused_update(&mut rng, cause - 7, round),
     }
 }
 
@@ -215,7 +232,7 @@ fn late_receipt(rng: &mut Rng, lines: usize) -> Vec<u8> {
         let moved = writer.token_move();
         writer.request(moved.unwrap_or(Request::new(ANNOUNCE, 0, 0)));
     }
-    writer.request(Request::new(TAKE, receiver, 0));
+    writer.request(Request::new(TAKE, receiver, 1));
     if rng.chance(60) {
         writer.request(Request::new(IDLE, receiver, 0));
     } else {

@@ -2,26 +2,52 @@
 
 use super::rng::Rng;
 use crate::request::{Request, ACK, ANNOUNCE, IDLE, LEAVE, PROBE, SEND, TAKE};
-use crate::ring::Ring;
+use crate::ring::{Ring, TAKE_LIMIT};
 use crate::tree::Tree;
 
-/// The words of the log by kind number less one, each with its count of numbers.
-pub type Words = [(&'static str, usize); 6];
+/// A word of the log: how many nodes it names, and whether a number of messages follows them, which may be left out where it is 1.
+#[derive(Clone, Copy)]
+pub struct Word {
+    pub text: &'static str,
+    pub nodes: usize,
+    pub counts: bool,
+}
+
+impl Word {
+    const fn new(text: &'static str, nodes: usize) -> Self {
+        Self {
+            text,
+            nodes,
+            counts: false,
+        }
+    }
+
+    /// How many numbers it uses.
+    pub fn numbers(&self) -> usize {
+        self.nodes + usize::from(self.counts)
+    }
+}
+
+/// The words by kind number less one.
+pub type Words = [Word; 6];
 pub const RING_WORDS: Words = [
-    ("send", 2),
-    ("take", 1),
-    ("idle", 1),
-    ("probe", 0),
-    ("pass", 1),
-    ("announce", 0),
+    Word::new("send", 2),
+    Word {
+        counts: true,
+        ..Word::new("take", 1)
+    },
+    Word::new("idle", 1),
+    Word::new("probe", 0),
+    Word::new("pass", 1),
+    Word::new("announce", 0),
 ];
 const TREE_WORDS: Words = [
-    ("send", 2),
-    ("take", 2),
-    ("idle", 1),
-    ("ack", 1),
-    ("leave", 1),
-    ("announce", 0),
+    Word::new("send", 2),
+    Word::new("take", 2),
+    Word::new("idle", 1),
+    Word::new("ack", 1),
+    Word::new("leave", 1),
+    Word::new("announce", 0),
 ];
 
 /// The state that a run leads to.
@@ -29,8 +55,16 @@ pub trait Model {
     fn words(&self) -> &'static Words;
     fn n(&self) -> usize;
 
-    /// A request that the rules allow; while winding down no send.
+    /// A request that the rules allow, a ring's take being of one message; while winding down no send.
     fn allowed(&self, rng: &mut Rng, winding_down: bool) -> Option<Request>;
+
+    /// An allowed ring's take with any number of messages that is allowed too; any other request as it is.
+    fn of_several(&self, _rng: &mut Rng, request: Request) -> Request {
+        request
+    }
+
+    /// A take; of a ring, of about as many messages as are allowed.
+    fn any_take(&self, rng: &mut Rng) -> Request;
 
     fn active(&self) -> &[bool];
 
@@ -57,10 +91,11 @@ pub trait Model {
             0 => self.announcer(),
             _ => rng.below(n),
         };
-        match rng.below(8) {
+        match rng.below(9) {
             0 | 1 => Request::new(SEND, i, i),
             2 | 3 => self.beyond(rng),
             4 => Request::new(ANNOUNCE, 0, 0),
+            5 => self.any_take(rng),
             _ => Request::new(1 + rng.below(6), i, rng.below(n)),
         }
     }
@@ -73,9 +108,9 @@ pub trait Model {
         let cut = [1 << 8 | within, 1 << 16 | within];
         let far = rng.pick(&[n, n, n, n + 1, n + 16, n + 80, cut[0], cut[1], n + 99_000]);
         let kind = rng
-            .node(6, |kind| self.words()[kind].1 > 0)
-            .expect("words with a number");
-        let (i, j) = match self.words()[kind].1 {
+            .node(6, |kind| self.words()[kind].nodes > 0)
+            .expect("words with a node");
+        let (i, j) = match self.words()[kind].nodes {
             1 => (far, near),
             _ => rng.pick(&[(far, near), (near, far), (far, far)]),
         };
@@ -106,6 +141,24 @@ impl Model for Ring {
             .find_map(|class| ring_allowed_of(self, class, rng))
     }
 
+    fn of_several(&self, rng: &mut Rng, request: Request) -> Request {
+        if request.kind != TAKE {
+            return request;
+        }
+        let most = TAKE_LIMIT.min(self.pending[request.i] as usize);
+        let some = 1 + rng.below(most);
+        let messages = rng.pick(&[most, some]);
+        Request::new(TAKE, request.i, messages)
+    }
+
+    fn any_take(&self, rng: &mut Rng) -> Request {
+        let some = rng.below(self.n);
+        let waiting = rng.node(self.n, |i| self.pending[i] > 0).unwrap_or(some);
+        let fullest = (0..self.n).max_by_key(|&i| self.pending[i]);
+        let i = rng.pick(&[some, waiting, waiting, fullest.unwrap_or(some)]);
+        Request::new(TAKE, i, about(rng, self.pending[i] as usize))
+    }
+
     fn active(&self) -> &[bool] {
         &self.active
     }
@@ -131,6 +184,15 @@ impl Model for Ring {
     }
 }
 
+/// Numbers of messages about those that are on their way and about the limit; some are allowed if they are cut to 8 or 16 bits.
+fn about(rng: &mut Rng, pending: usize) -> usize {
+    let within = 1 + rng.below(pending.clamp(1, TAKE_LIMIT));
+    let cut = [(1 << 8) + within, (1 << 16) + within];
+    let limits = [0, TAKE_LIMIT, TAKE_LIMIT + 1, 99_999];
+    let near = [0, 1, pending, pending + 1, pending + 1];
+    rng.pick(&[&cut[..], &limits, &near].concat())
+}
+
 fn ring_allowed_of(ring: &Ring, class: usize, rng: &mut Rng) -> Option<Request> {
     let active = |i: usize| ring.active[i];
     match class {
@@ -142,7 +204,7 @@ fn ring_allowed_of(ring: &Ring, class: usize, rng: &mut Rng) -> Option<Request> 
         SEND => None,
         TAKE => {
             let i = rng.node(ring.n, |i| ring.pending[i] > 0)?;
-            Some(Request::new(TAKE, i, 0))
+            Some(Request::new(TAKE, i, 1))
         }
         IDLE => Some(Request::new(IDLE, rng.node(ring.n, active)?, 0)),
         _ => ring.token_move().or_else(|| idle_holder(ring)),
@@ -176,6 +238,10 @@ impl Model for Tree {
             .map(|k| CLASSES[(first + k) % CLASSES.len()])
             .filter(|&class| class != SEND || !winding_down)
             .find_map(|class| tree_allowed_of(self, class, rng))
+    }
+
+    fn any_take(&self, rng: &mut Rng) -> Request {
+        Request::new(TAKE, rng.below(self.n), rng.below(self.n))
     }
 
     fn active(&self) -> &[bool] {

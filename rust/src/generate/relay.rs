@@ -39,7 +39,7 @@ impl Relay {
             }
         }
         self.round(rng, self.n);
-        self.request(TAKE, self.receiver, 0);
+        self.request(TAKE, self.receiver, 1);
         self.request(IDLE, self.receiver, 0);
         self.request(ANNOUNCE, 0, 0);
         self.writer
@@ -65,7 +65,7 @@ impl Relay {
     fn round(&mut self, rng: &mut Rng, taken_after: usize) {
         for moves in 0..self.n {
             if moves == taken_after {
-                self.request(TAKE, self.receiver, 0);
+                self.request(TAKE, self.receiver, 1);
                 self.send(rng);
             }
             let moved = self.writer.token_move();
@@ -77,7 +77,7 @@ impl Relay {
 
     /// Node 0 takes the message and stays active until the token moves no more.
     fn stay(&mut self, rng: &mut Rng) {
-        self.request(TAKE, 0, 0);
+        self.request(TAKE, 0, 1);
         self.writer.move_token();
         self.request(ANNOUNCE, 0, 0);
         self.send(rng);

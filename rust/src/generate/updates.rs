@@ -1,13 +1,16 @@
 //! Logs of updates: rings of the same N whose lines are interleaved, each started afresh at any time.
 
 use super::faults::{fault, wrapped, Fault};
+use super::inbox::{delivery, emptying};
 use super::limits::{listed, PAST};
 use super::model::{Model, RING_WORDS};
 use super::rng::Rng;
 use super::starts::above;
-use super::writer::{line_of, random_request, random_ring_line, ring_line, Mix};
+use super::writer::{
+    full_line_of, line_of, of_one, random_request, random_ring_line, ring_line, spelled, Mix,
+};
 use crate::log::{Log, Run, LINE_BYTES, LINE_LIMIT};
-use crate::request::{Request, ANNOUNCE};
+use crate::request::{Request, ANNOUNCE, SEND, TAKE};
 use crate::ring::{Ring, MAX_NODES};
 use crate::table::UPDATES;
 
@@ -17,8 +20,12 @@ const FRESH: usize = 2;
 const DRIVEN: usize = 2;
 /// Lines of others after a hundred of a drive.
 const BETWEEN: usize = 40;
+/// Lines of others after a hundred sends to a full inbox.
+const OTHERS: usize = 10;
 /// Lines of an update before it winds down, at most.
 const BUSY: usize = 60;
+/// How often, in a hundred, an allowed take is of any number of messages.
+const SEVERAL: usize = 40;
 
 pub struct Updates {
     log: Vec<u8>,
@@ -70,8 +77,9 @@ impl Updates {
         self.write(&wrapped(update, &line));
     }
 
-    fn step(&mut self, update: usize, request: Request) {
-        self.write(&wrapped(update, &step_line(request)));
+    /// A step, with all its numbers now and then.
+    fn step(&mut self, rng: &mut Rng, update: usize, request: Request) {
+        self.write(&wrapped(update, &spelled(rng, &RING_WORDS, request)));
     }
 
     /// Lines of some updates, and what the mix adds, until `lines` lines are written.
@@ -81,7 +89,8 @@ impl Updates {
             let update = (first + rng.below(in_play)) % UPDATES;
             let roll = rng.below(100);
             if roll < mix.random {
-                self.step(update, random_request(rng, self.n));
+                let request = random_request(rng, self.n);
+                self.step(rng, update, request);
             } else if roll < mix.random + mix.tempting {
                 self.tempt(rng, update);
             } else if roll < mix.random + mix.tempting + mix.faults {
@@ -105,7 +114,7 @@ impl Updates {
             Some(ring) if ring.closed && rng.chance(60) => self.start(rng, update),
             Some(_) => {
                 let request = self.allowed(rng, update);
-                self.step(update, request);
+                self.step(rng, update, request);
             }
         }
     }
@@ -116,8 +125,11 @@ impl Updates {
         self.busy[update] = self.busy[update].saturating_sub(1);
         let ring = self.ring(update).expect("a started update");
         let kept_up = |request: &Request| !(busy && ring.terminates(*request));
-        let request = ring.allowed(rng, !busy).filter(kept_up);
-        request.unwrap_or(Request::new(ANNOUNCE, 0, 0))
+        match ring.allowed(rng, !busy).filter(kept_up) {
+            None => Request::new(ANNOUNCE, 0, 0),
+            Some(request) if rng.chance(SEVERAL) => ring.of_several(rng, request),
+            Some(request) => request,
+        }
     }
 
     /// Steps of one update without sends, to its announcement, and lines of others between them.
@@ -125,12 +137,30 @@ impl Updates {
         self.busy[update] = 0;
         while self.ring(update).is_some_and(|ring| !ring.closed) && !self.reader.is_over() {
             let request = self.allowed(rng, update);
-            self.step(update, request);
+            self.step(rng, update, request);
             if rng.chance(BETWEEN) {
                 let between = rng_update(rng);
                 self.advance(rng, between);
             }
         }
+    }
+
+    /// An update of two nodes or more, one of which empties its inbox, and lines of others now and then.
+    pub fn full_inbox(&mut self, rng: &mut Rng) {
+        let update = rng_update(rng);
+        let (sender, receiver, messages) = delivery(rng, self.n);
+        self.write(&wrapped(update, &ring_line(self.n, &[sender], &[])));
+        for _ in 0..messages {
+            self.step(rng, update, Request::new(SEND, sender, receiver));
+            if rng.chance(OTHERS) {
+                let other = (update + 1 + rng.below(UPDATES - 1)) % UPDATES;
+                self.advance(rng, other);
+            }
+        }
+        for messages in emptying(rng, messages) {
+            self.step(rng, update, Request::new(TAKE, receiver, messages));
+        }
+        self.close(rng, update);
     }
 
     /// A step that is likely to be refused.
@@ -139,7 +169,7 @@ impl Updates {
             Some(ring) => ring.tempting(rng),
             None => random_request(rng, self.n),
         };
-        self.step(update, request);
+        self.step(rng, update, request);
     }
 
     /// A form that is refused mostly: the number of an update, N, or a node of a list.
@@ -176,7 +206,7 @@ impl Updates {
         let inner = if rng.chance(20) {
             random_ring_line(rng, self.n)
         } else {
-            step_line(random_request(rng, self.n))
+            full_line_of(&RING_WORDS, random_request(rng, self.n))
         };
         let line = if rng.chance(50) {
             misread(rng, update, &inner)
@@ -208,7 +238,7 @@ pub fn unknown(rng: &mut Rng) -> usize {
 }
 
 /// Lines that are no forms, with the number of an update for `U` and a good form for `F`.
-const WRAPPINGS: [&str; 34] = [
+const WRAPPINGS: [&str; 39] = [
     "F",
     "(update U F",
     "(update U F))",
@@ -226,7 +256,12 @@ const WRAPPINGS: [&str; 34] = [
     "(update U (tree 3 (root 0)))",
     "(update U (ack 0))",
     "(update U (leave 1))",
-    "(update U (take 1 0))",
+    "(update U (take))",
+    "(update U (take 1 ))",
+    "(update U (take 1  5))",
+    "(update U (take 1 05))",
+    "(update U (take 1 100000))",
+    "(update U (take 1 5 1))",
     "(update U (end))",
     "(update U ())",
     "(update 0U F)",
@@ -300,7 +335,7 @@ fn busy_step(rng: &mut Rng, logs: &[Log; 2], random: usize) -> (usize, Request) 
         let update = rng_update(rng);
         let ring = updates.table.updates[update].as_ref().expect("a start");
         let request = if any {
-            random_request(rng, MAX_NODES)
+            of_one(&RING_WORDS, random_request(rng, MAX_NODES))
         } else {
             ring.allowed(rng, false).expect("a ring that is not quiet")
         };

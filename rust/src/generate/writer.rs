@@ -1,7 +1,7 @@
 //! A log being written, beside the state that its lines lead to.
 
 use super::faults::{fault, Fault};
-use super::model::{idle_holder, Model, Words};
+use super::model::{idle_holder, Model, Word, Words};
 use super::rng::Rng;
 use crate::log::{Log, Run};
 use crate::request::{Request, ANNOUNCE, IDLE};
@@ -22,7 +22,12 @@ pub struct Mix {
     pub messages: u64,
     /// How often, in a hundred times that it is nearly over, the announcement is asked for.
     pub eager: usize,
+    /// How often, in a hundred, a ring's allowed take is of any number of messages; with 0 every take is of one.
+    pub several: usize,
 }
+
+/// How often, in a hundred, a number of messages is written that may be left out.
+const IN_FULL: usize = 30;
 
 /// Lines in which a run that few requests keep up winds down, mostly.
 const LINES_TO_THE_END: usize = 1_000;
@@ -106,7 +111,7 @@ impl Writer {
             let roll = rng.below(100);
             let model = self.model();
             let request = if roll < mix.random {
-                random_request(rng, model.n())
+                random(rng, model, mix)
             } else if roll < mix.random + mix.tempting {
                 model.tempting(rng)
             } else if roll < mix.random + mix.tempting + mix.faults {
@@ -118,7 +123,7 @@ impl Writer {
                 return;
             };
             if winding_down || !self.model().terminates(request) {
-                self.request(request);
+                self.spell(rng, request, mix);
             } else if self.model().n() == 1 {
                 return;
             }
@@ -128,13 +133,24 @@ impl Writer {
         }
     }
 
+    /// A request, spelled as the mix asks.
+    fn spell(&mut self, rng: &mut Rng, request: Request, mix: Mix) {
+        let words = self.model().words();
+        let line = match mix.several {
+            0 => line_of(words, request),
+            _ => spelled(rng, words, request),
+        };
+        self.write(&line);
+    }
+
     /// A line that is wrong, mostly made from one that is not.
     fn fault(&mut self, rng: &mut Rng, kind: Fault) {
         let model = self.model();
-        let request = model
-            .allowed(rng, false)
-            .unwrap_or_else(|| random_request(rng, model.n()));
-        let good = line_of(model.words(), request);
+        let request = match model.allowed(rng, false) {
+            Some(request) => model.of_several(rng, request),
+            None => random_request(rng, model.n()),
+        };
+        let good = full_line_of(model.words(), request);
         self.write(&fault(rng, kind, &good));
     }
 
@@ -166,7 +182,19 @@ impl Writer {
 
 fn allowed(rng: &mut Rng, model: &dyn Model, mix: Mix, winding_down: bool) -> Option<Request> {
     let no_sends = winding_down || model.messages() >= mix.messages;
-    model.allowed(rng, no_sends)
+    let request = model.allowed(rng, no_sends)?;
+    if mix.several > 0 && rng.chance(mix.several) {
+        return Some(model.of_several(rng, request));
+    }
+    Some(request)
+}
+
+fn random(rng: &mut Rng, model: &dyn Model, mix: Mix) -> Request {
+    let request = random_request(rng, model.n());
+    if mix.several == 0 {
+        return of_one(model.words(), request);
+    }
+    request
 }
 
 /// A ring's start.
@@ -196,14 +224,42 @@ fn push_list(line: &mut Vec<u8>, word: &str, list: &[usize]) {
     line.push(b')');
 }
 
+/// A request as a line; one message is not counted there.
 pub fn line_of(words: &Words, request: Request) -> Vec<u8> {
-    let (word, count) = words[request.kind - 1];
-    let mut line = format!("({word}").into_bytes();
-    for number in [request.i, request.j].iter().take(count) {
+    let word = words[request.kind - 1];
+    let left_out = word.counts && request.j == 1;
+    line_with(word, word.numbers() - usize::from(left_out), request)
+}
+
+/// A request as a line with all its numbers.
+pub fn full_line_of(words: &Words, request: Request) -> Vec<u8> {
+    let word = words[request.kind - 1];
+    line_with(word, word.numbers(), request)
+}
+
+/// A request as a line, with all its numbers now and then.
+pub fn spelled(rng: &mut Rng, words: &Words, request: Request) -> Vec<u8> {
+    if rng.chance(IN_FULL) {
+        full_line_of(words, request)
+    } else {
+        line_of(words, request)
+    }
+}
+
+fn line_with(word: Word, numbers: usize, request: Request) -> Vec<u8> {
+    let mut line = format!("({}", word.text).into_bytes();
+    for number in [request.i, request.j].iter().take(numbers) {
         write!(line, " {number}").expect("writing to memory");
     }
     line.extend_from_slice(b")\n");
     line
+}
+
+/// A request that counts messages with one of them, any other as it is.
+pub fn of_one(words: &Words, request: Request) -> Request {
+    let counts = words[request.kind - 1].counts;
+    let j = if counts { 1 } else { request.j };
+    Request { j, ..request }
 }
 
 /// Any kind, with numbers that are mostly below `n`.
