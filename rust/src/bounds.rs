@@ -22,6 +22,19 @@ const fn asked(nodes: RangeInclusive<usize>, accepted: usize, refused: usize) ->
     }
 }
 
+/// Takes of rings, by their numbers of messages.
+pub struct TakesAsked {
+    /// Of several messages, accepted.
+    pub several: usize,
+    /// Of all of several that are on their way, and of some, accepted; of none, and of one more than are on their way, refused.
+    pub reasons: usize,
+    /// Of as many as may be, accepted, and of one more, refused.
+    pub limit: usize,
+    /// Refused, not if the number is cut to each of these numbers of bits.
+    pub cut: usize,
+    pub widths: &'static [u32],
+}
+
 /// What one detector's lines after the first have to meet, on all sizes or on the large ones.
 pub struct Met {
     /// Each kind of step but announce, accepted.
@@ -39,7 +52,7 @@ pub struct Met {
 
 /// Of the logs by seed.
 pub mod logs {
-    use super::{asked, ring, tree, Asked, Met, LARGE_RINGS, LARGE_TREES};
+    use super::{asked, ring, tree, Asked, Met, TakesAsked, LARGE_RINGS, LARGE_TREES};
 
     pub const ON_ALL: Met = Met {
         kind: 10_000,
@@ -59,6 +72,22 @@ pub mod logs {
         seldom: 30,
         often: 500,
     };
+    pub const TAKES: TakesAsked = TakesAsked {
+        several: 4_000,
+        reasons: 500,
+        limit: 40,
+        cut: 100,
+        widths: &WIDTHS,
+    };
+    pub const TAKES_ON_LARGE: TakesAsked = TakesAsked {
+        several: 1_000,
+        reasons: 100,
+        limit: 15,
+        cut: 30,
+        widths: &WIDTHS,
+    };
+    /// Each spelling of a take.
+    pub const SPELLINGS: usize = 50;
     pub const ON_RINGS: [Asked; 4] = [
         asked(1..=1, 50, 200),
         asked(2..=8, 100_000, 20_000),
@@ -89,7 +118,7 @@ pub mod logs {
 
 /// Of the logs of updates.
 pub mod updates {
-    use super::{asked, Asked, LARGE_RINGS};
+    use super::{asked, logs, Asked, TakesAsked, LARGE_RINGS};
 
     pub const UNKNOWN_UPDATE: usize = 13;
     pub const NODE_COUNT: usize = 1;
@@ -117,6 +146,15 @@ pub mod updates {
     pub const STEPS: usize = 1_000;
     /// Each cause of a refusal.
     pub const CAUSES: usize = 100;
+    pub const TAKES: TakesAsked = TakesAsked {
+        several: 4_000,
+        reasons: 500,
+        limit: 40,
+        cut: 100,
+        widths: &logs::WIDTHS,
+    };
+    /// Each spelling of a take.
+    pub const SPELLINGS: usize = 50;
     /// Lines of the greatest length, and of a byte more.
     pub const LENGTHS: usize = 30;
     pub const ON_LARGE: Asked = asked(LARGE_RINGS, 100_000, 20_000);

@@ -16,6 +16,7 @@ pub mod ring;
 pub mod sizes;
 pub mod statements;
 pub mod table;
+pub mod takes;
 pub mod tally;
 pub mod text;
 pub mod tree;

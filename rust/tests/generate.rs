@@ -1,6 +1,8 @@
 //! What the generated logs are for: accepted steps mostly, and the limit of lines.
 
-use second::generate::{busy_updates, log, past_line_limit, updates_log, updates_past_line_limit};
+use second::generate::{
+    busy_ring, busy_updates, log, past_line_limit, updates_log, updates_past_line_limit,
+};
 use second::log::{run, LINE_LIMIT};
 use second::report::Report;
 use second::table::UPDATES;
@@ -23,6 +25,19 @@ fn half_of_the_lines_are_accepted_and_few_are_no_form() {
     }
     let mut report = Report::default();
     tally.report_shares("logs", &mut report);
+    assert!(report.holds());
+}
+
+/// Takes of every number and spelling among it.
+#[test]
+fn the_logs_meet_what_is_asked() {
+    let mut tally = Tally::default();
+    for seed in 1..=2_000 {
+        let log = log(seed, 600);
+        tally.count(&log, &run(&log));
+    }
+    let mut report = Report::default();
+    tally.report(&mut report);
     assert!(report.holds());
 }
 
@@ -64,6 +79,22 @@ fn the_last_line_of_updates_that_is_read_is_accepted() {
     let last = split(&answers).nth(LINE_LIMIT as usize - 1);
     assert_eq!(last, Some(&b"(ok 1000000)\n"[..]));
     assert!(answers.ends_with(b")))\n"));
+}
+
+/// Takes there are of one message, and said so by no number.
+#[test]
+fn busy_logs_take_one_message_at_a_time() {
+    let [wrapped, bare] = busy_updates(5_000);
+    for log in [busy_ring(5_000), wrapped, bare] {
+        let text = String::from_utf8(log).expect("lines of ASCII");
+        let takes: Vec<&str> = text.lines().filter(|line| line.contains("take")).collect();
+        assert!(takes.len() > 500);
+        let numbers = |line: &str| {
+            line.split_once("(take ")
+                .map(|(_, rest)| rest.contains(' '))
+        };
+        assert!(takes.iter().all(|line| numbers(line) == Some(false)));
+    }
 }
 
 /// The same steps on eight rings and on one have the same answers, and most are accepted.

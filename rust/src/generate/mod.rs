@@ -17,6 +17,7 @@ pub use limits::past_line_limit;
 pub use model::Model;
 pub use rng::Rng;
 
+use crate::bounds::LARGE_RINGS;
 use crate::request::{Request, ANNOUNCE, IDLE, SEND, TAKE};
 use crate::ring;
 use crate::tree;
@@ -91,6 +92,14 @@ fn ring_size(rng: &mut Rng) -> usize {
     }
 }
 
+/// Two nodes or more, every other time more than most logs have.
+fn several_nodes(rng: &mut Rng, round: usize) -> usize {
+    match round % 2 {
+        0 => ring_size(rng).max(2),
+        _ => *LARGE_RINGS.start() + rng.below(LARGE_RINGS.count()),
+    }
+}
+
 fn tree_size(rng: &mut Rng) -> usize {
     match rng.below(10) {
         0 => rng.pick(&[1, tree::MAX_NODES]),
@@ -142,9 +151,8 @@ pub fn log(seed: u64, size: usize) -> Vec<u8> {
             writer.end(&mut rng, 0, NEAR_THE_END)
         }
         12 => {
-            let n = ring_size(&mut rng).max(2);
-            let writer = full_inbox(&mut rng, n);
-            writer.end(&mut rng, 0, NEAR_THE_END)
+            let n = several_nodes(&mut rng, round);
+            full_inbox(&mut rng, n).end(&mut rng, 0, NEAR_THE_END)
         }
         cause => refused_start(&mut rng, cause - 8 - LATE, round),
     }
@@ -181,7 +189,7 @@ pub fn updates_log(seed: u64, size: usize) -> Vec<u8> {
         }
         5 => update_limit(&mut rng, round),
         6 => {
-            let n = ring_size(&mut rng).max(2);
+            let n = several_nodes(&mut rng, round);
             let mut updates = Updates::new(&mut rng, n);
             updates.full_inbox(&mut rng);
             updates.finish()

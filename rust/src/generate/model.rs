@@ -58,7 +58,7 @@ pub trait Model {
     /// A request that the rules allow, a ring's take being of one message; while winding down no send.
     fn allowed(&self, rng: &mut Rng, winding_down: bool) -> Option<Request>;
 
-    /// An allowed ring's take with any number of messages that is allowed too; any other request as it is.
+    /// For a ring's take one of any number of messages that is allowed, by a node with several if there is one; any other request as it is.
     fn of_several(&self, _rng: &mut Rng, request: Request) -> Request {
         request
     }
@@ -91,11 +91,11 @@ pub trait Model {
             0 => self.announcer(),
             _ => rng.below(n),
         };
-        match rng.below(9) {
+        match rng.below(10) {
             0 | 1 => Request::new(SEND, i, i),
             2 | 3 => self.beyond(rng),
             4 => Request::new(ANNOUNCE, 0, 0),
-            5 => self.any_take(rng),
+            5 | 6 => self.any_take(rng),
             _ => Request::new(1 + rng.below(6), i, rng.below(n)),
         }
     }
@@ -145,10 +145,11 @@ impl Model for Ring {
         if request.kind != TAKE {
             return request;
         }
-        let most = TAKE_LIMIT.min(self.pending[request.i] as usize);
+        let i = rng.node(self.n, |i| self.pending[i] > 1);
+        let i = i.unwrap_or(request.i);
+        let most = TAKE_LIMIT.min(self.pending[i] as usize);
         let some = 1 + rng.below(most);
-        let messages = rng.pick(&[most, some]);
-        Request::new(TAKE, request.i, messages)
+        Request::new(TAKE, i, rng.pick(&[most, some, some]))
     }
 
     fn any_take(&self, rng: &mut Rng) -> Request {

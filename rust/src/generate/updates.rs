@@ -8,6 +8,7 @@ use super::rng::Rng;
 use super::starts::above;
 use super::writer::{
     full_line_of, line_of, of_one, random_request, random_ring_line, ring_line, spelled, Mix,
+    AGAIN, MOST_AGAIN,
 };
 use crate::log::{Log, Run, LINE_BYTES, LINE_LIMIT};
 use crate::request::{Request, ANNOUNCE, SEND, TAKE};
@@ -21,7 +22,7 @@ const DRIVEN: usize = 2;
 /// Lines of others after a hundred of a drive.
 const BETWEEN: usize = 40;
 /// Lines of others after a hundred sends to a full inbox.
-const OTHERS: usize = 10;
+const OTHERS: usize = 40;
 /// Lines of an update before it winds down, at most.
 const BUSY: usize = 60;
 /// How often, in a hundred, an allowed take is of any number of messages.
@@ -115,6 +116,11 @@ impl Updates {
             Some(_) => {
                 let request = self.allowed(rng, update);
                 self.step(rng, update, request);
+                if request.kind == SEND && rng.chance(AGAIN) {
+                    for _ in 0..rng.below(MOST_AGAIN) {
+                        self.step(rng, update, request);
+                    }
+                }
             }
         }
     }

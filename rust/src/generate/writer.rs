@@ -4,7 +4,7 @@ use super::faults::{fault, Fault};
 use super::model::{idle_holder, Model, Word, Words};
 use super::rng::Rng;
 use crate::log::{Log, Run};
-use crate::request::{Request, ANNOUNCE, IDLE};
+use crate::request::{Request, ANNOUNCE, IDLE, TAKE};
 use crate::{ring, tree};
 use std::io::Write;
 
@@ -28,6 +28,9 @@ pub struct Mix {
 
 /// How often, in a hundred, a number of messages is written that may be left out.
 const IN_FULL: usize = 30;
+/// How often, in a hundred, a send comes again at once, and how many times at most.
+pub const AGAIN: usize = 5;
+pub const MOST_AGAIN: usize = 10;
 
 /// Lines in which a run that few requests keep up winds down, mostly.
 const LINES_TO_THE_END: usize = 1_000;
@@ -133,14 +136,21 @@ impl Writer {
         }
     }
 
-    /// A request, spelled as the mix asks.
+    /// A request, spelled as the mix asks; now and then an accepted send of a ring comes again at once.
     fn spell(&mut self, rng: &mut Rng, request: Request, mix: Mix) {
         let words = self.model().words();
-        let line = match mix.several {
-            0 => line_of(words, request),
-            _ => spelled(rng, words, request),
-        };
+        if mix.several == 0 || !words[TAKE - 1].counts {
+            return self.request(request);
+        }
+        let before = self.model().messages();
+        let line = spelled(rng, words, request);
         self.write(&line);
+        let is_sent = self.model().messages() > before;
+        if is_sent && mix.messages == u64::MAX && rng.chance(AGAIN) {
+            for _ in 0..rng.below(MOST_AGAIN) {
+                self.write(&line);
+            }
+        }
     }
 
     /// A line that is wrong, mostly made from one that is not.

@@ -5,6 +5,7 @@ use crate::bounds::{logs, Asked, Met, LARGE_RINGS, LARGE_TREES};
 use crate::report::Report;
 use crate::request::{Request, ANNOUNCE, LEAVE, PASS, PROBE, TAKE};
 use crate::ring::{Ring, COLOR_BYTES};
+use crate::takes::Takes;
 use crate::tree::Tree;
 use std::ops::RangeInclusive;
 
@@ -22,10 +23,18 @@ pub trait Cases: Default {
 
     fn n(state: &Self::State) -> usize;
 
+    /// The node numbers of a request, and others that may be there.
+    fn nodes(request: Request) -> [usize; 2] {
+        [request.i, request.j]
+    }
+
     /// Counts a request to an open run.
     fn count(&mut self, state: &Self::State, request: Request, accepted: bool);
 
     fn report(&self, name: &str, least: &Met, report: &mut Report);
+
+    /// Of takes by their numbers of messages, on all sizes or on the large ones.
+    fn report_takes(&self, _name: &str, _is_large: bool, _report: &mut Report) {}
 }
 
 /// The place of the only truth, if there is one alone.
@@ -66,6 +75,7 @@ pub struct RingCases {
     /// Passes of a white token by black nodes of each byte of colors.
     blackened: [usize; COLOR_BYTES],
     behind: Decided<1>,
+    takes: Takes,
 }
 
 impl RingCases {
@@ -97,7 +107,16 @@ impl Cases for RingCases {
         ring.n
     }
 
+    /// The second number of a take is no node.
+    fn nodes(request: Request) -> [usize; 2] {
+        match request.kind {
+            TAKE => [request.i, 0],
+            _ => [request.i, request.j],
+        }
+    }
+
     fn count(&mut self, ring: &Ring, request: Request, accepted: bool) {
+        self.takes.count(ring, request, accepted);
         let (token, sum) = (ring.token, ring.token.q + ring.counter(0));
         let home = token.pos == 0;
         let node_black = ring.is_black(0);
@@ -146,6 +165,15 @@ impl Cases for RingCases {
         let names = ["take by a node that the token under way has passed"];
         self.behind.report(of, names, least.often, report);
         self.report_blackened(of, least, report);
+    }
+
+    fn report_takes(&self, of: &str, is_large: bool, report: &mut Report) {
+        let asked = if is_large {
+            &logs::TAKES_ON_LARGE
+        } else {
+            &logs::TAKES
+        };
+        self.takes.report(of, asked, report);
     }
 }
 

@@ -2,12 +2,13 @@
 //! that one condition of a rule decides alone, by the second implementation's states.
 
 mod cases;
+mod spellings;
 mod starts;
 mod steps;
 mod updates;
 
 use crate::bounds::logs::{
-    ACCEPTED_PART, ANNOUNCED_IN_ALL, NO_FORM_PART, ON_ALL, ON_LARGE, WIDTHS,
+    ACCEPTED_PART, ANNOUNCED_IN_ALL, NO_FORM_PART, ON_ALL, ON_LARGE, SPELLINGS, WIDTHS,
 };
 use crate::bounds::{self, Met};
 use crate::forms;
@@ -16,6 +17,7 @@ use crate::report::Report;
 use crate::request::Request;
 use crate::sizes::{range_name, Sizes};
 use cases::{Cases, RingCases, TreeCases};
+use spellings::Spellings;
 use starts::Starts;
 use steps::{Steps, Words};
 use updates::Updates;
@@ -68,8 +70,8 @@ impl<C: Cases> Part<C> {
 
     fn count_cut(&mut self, n: usize, request: Request) {
         for (count, bits) in self.cut.iter_mut().zip(WIDTHS) {
-            let is_node = |i: usize| i % (1 << bits) < n;
-            *count += usize::from(is_node(request.i) && is_node(request.j));
+            let are_nodes = C::nodes(request).iter().all(|i| i % (1 << bits) < n);
+            *count += usize::from(are_nodes);
         }
     }
 
@@ -88,6 +90,7 @@ struct Detector<C> {
     all: Part<C>,
     large: Part<C>,
     sizes: Sizes,
+    spellings: Spellings,
 }
 
 impl<C: Cases> Detector<C> {
@@ -106,6 +109,8 @@ impl<C: Cases> Detector<C> {
         self.sizes.report(C::NAME, &C::ASKED, C::SIZES, report);
         let name = range_name(C::NAME, &C::LARGE);
         self.large.report(&name, &C::WORDS, &ON_LARGE, report);
+        self.all.cases.report_takes(C::NAME, false, report);
+        self.large.cases.report_takes(&name, true, report);
     }
 }
 
@@ -151,10 +156,12 @@ impl Tally {
             Run::Ring(run) => {
                 let request = forms::of_ring(line).ok();
                 self.ring.count(&run.ring, request, answer);
+                self.ring.spellings.count(line, answer);
                 self.misplaced += usize::from(forms::wrapped(line).is_ok());
             }
             Run::Tree(tree) => {
                 self.tree.count(tree, forms::of_tree(line).ok(), answer);
+                self.tree.spellings.count(line, answer);
                 self.misplaced += usize::from(forms::wrapped(line).is_ok());
             }
             Run::Updates(run) => self.updates.count(run, line, answer),
@@ -189,7 +196,9 @@ impl Tally {
         let announced = self.both(Steps::announced);
         report.at_least("logs announced", announced, ANNOUNCED_IN_ALL);
         self.ring.report(report);
+        self.ring.spellings.report("ring", SPELLINGS, report);
         self.tree.report(report);
+        self.tree.spellings.report_tree(SPELLINGS, report);
     }
 
     /// What is asked of the logs of updates, and of bare logs with lines of updates.

@@ -1,5 +1,6 @@
 //! What was met in the logs of updates.
 
+use super::spellings::Spellings;
 use super::{ANSWERS, NOT_A_FORM};
 use crate::bounds::logs::WIDTHS;
 use crate::bounds::updates::*;
@@ -10,6 +11,7 @@ use crate::request::{Request, ANNOUNCE};
 use crate::ring::Ring;
 use crate::sizes::Sizes;
 use crate::table::{Table, UPDATES};
+use crate::takes::Takes;
 
 /// Lines of one update that were accepted.
 #[derive(Clone, Copy, Default)]
@@ -48,6 +50,8 @@ pub struct Updates {
     longest: usize,
     too_long: usize,
     sizes: Sizes,
+    takes: Takes,
+    spellings: Spellings,
 }
 
 impl Updates {
@@ -69,6 +73,7 @@ impl Updates {
     pub fn count(&mut self, run: &UpdatesRun, line: &[u8], answer: usize) {
         self.lines += 1;
         self.count_length(line, answer);
+        self.spellings.count(line, answer);
         match forms::wrapped(line) {
             Err(_) => self.count_no_form(line),
             Ok((update, wrapped)) => {
@@ -129,6 +134,9 @@ impl Updates {
 
     fn count_started(&mut self, ring: &Ring, update: usize, request: Request, accepted: bool) {
         self.sizes.count(ring.n, accepted);
+        if !ring.closed {
+            self.takes.count(ring, request, accepted);
+        }
         let announced = accepted && request.kind == ANNOUNCE;
         self.accepted[update].steps += usize::from(accepted);
         self.accepted[update].announced += usize::from(announced);
@@ -159,6 +167,8 @@ impl Updates {
         self.report_runs(report);
         self.report_refusals(report);
         self.sizes.report("updates", &[ON_LARGE], SIZES, report);
+        self.takes.report("updates", &TAKES, report);
+        self.spellings.report("updates", SPELLINGS, report);
     }
 
     fn report_runs(&self, report: &mut Report) {
