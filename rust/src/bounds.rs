@@ -163,7 +163,7 @@ pub mod updates {
 
 /// Of the calls on rings and on trees.
 pub mod calls {
-    use super::{asked, ring, tree, Asked, LARGE_RINGS, LARGE_TREES};
+    use super::{asked, ring, tree, Asked, TakesAsked, LARGE_RINGS, LARGE_TREES};
 
     /// Starts, and steps of runs.
     pub const STARTS: usize = 20_000;
@@ -176,6 +176,13 @@ pub mod calls {
     pub const ANNOUNCED: usize = 500;
     /// Each field broken alone.
     pub const BROKEN: usize = 200;
+    pub const TAKES: TakesAsked = TakesAsked {
+        several: 5_000,
+        reasons: 1_000,
+        limit: 100,
+        cut: 1_000,
+        widths: &[8, 16, 32],
+    };
     pub const ON_RINGS: [Asked; 4] = [
         asked(1..=1, 800, 1_500),
         asked(2..=8, 70_000, 40_000),
@@ -196,7 +203,7 @@ pub mod calls {
 
 /// Of the calls on tables of updates.
 pub mod tables {
-    use super::{asked, ring, Asked, LARGE_RINGS};
+    use super::{asked, ring, Asked, TakesAsked, LARGE_RINGS};
 
     /// Steps of runs.
     pub const STEPS: usize = 300_000;
@@ -205,6 +212,13 @@ pub mod tables {
     pub const FRESH: usize = 500;
     /// Sends that are accepted again since another update was started afresh.
     pub const GIVEN_BACK: usize = 50;
+    pub const TAKES: TakesAsked = TakesAsked {
+        several: 2_000,
+        reasons: 500,
+        limit: 50,
+        cut: 500,
+        widths: &[8, 16, 32],
+    };
     /// Accepted calls of each update.
     pub const OF_EACH: usize = 5_000;
     /// Different sizes.

@@ -2,11 +2,11 @@
 
 use crate::answers::{Answers, BySize};
 use crate::lent::LentRing;
-use crate::requests::{no_counts, request, Course};
+use crate::requests::{no_counts, request, takes, waiting, Course};
 use crate::same::{other, same_soundness, same_start, same_step};
 use crate::{fail, proved};
 use second::bounds::answers::{IS_SOUND, OF_SOUND, RING_DRIVE, RING_START};
-use second::bounds::calls::{ANNOUNCED, ANSWER, BROKEN, ON_RINGS, STARTS, STEPS};
+use second::bounds::calls::{ANNOUNCED, ANSWER, BROKEN, ON_RINGS, STARTS, STEPS, TAKES};
 use second::bounds::LARGE_RINGS;
 use second::generate::Rng;
 use second::refusal::Refusal;
@@ -14,6 +14,7 @@ use second::report::Report;
 use second::request::{Request, SEND_LIMIT};
 use second::ring::{Reason, Ring, Token, COLOR_BYTES, MAX_NODES, MOVE_LIMIT};
 use second::sizes::Sizes;
+use second::takes::Takes;
 
 /// The fields that are broken, one alone or two.
 pub const FIELDS: [&str; 10] = [
@@ -38,6 +39,7 @@ struct Rings {
     steps: BySize,
     sizes: Sizes,
     announced: usize,
+    takes: Takes,
     wild_steps: BySize,
     soundness: BySize,
     /// Soundness of states with several fields changed that still agree in part.
@@ -57,6 +59,7 @@ impl Rings {
             steps: answers("steps of runs"),
             sizes: Sizes::default(),
             announced: 0,
+            takes: Takes::default(),
             wild_steps: answers("steps of wild states"),
             soundness: answers("soundness of wild states"),
             balanced: answers("soundness of states in balance"),
@@ -86,14 +89,19 @@ impl Rings {
     fn run(&mut self, random: &mut Rng) {
         let mut ring = match random.below(6) {
             0 => near_send_limit(random),
+            1 => with_messages(random),
             _ => started(random),
         };
+        self.all_takes(&ring, random);
         let mut course = Course::new(random);
         while let Some(request) = course.next(&ring, ring.closed, random) {
             let told = same_step(self.seed, &LentRing::of(&ring), request);
             self.steps.count(ring.n, told);
             self.sizes.count(ring.n, told == 0);
             let was_open = !ring.closed;
+            if was_open {
+                self.takes.count(&ring, request, told == 0);
+            }
             let _ = ring.step(request);
             self.announced += usize::from(ring.closed && was_open);
             if random.chance(20) {
@@ -101,6 +109,9 @@ impl Rings {
             }
             if random.chance(10) {
                 self.drive(&mut ring, random);
+            }
+            if random.chance(1) && !ring.closed {
+                self.all_takes(&ring, random);
             }
         }
         let noise = LentRing::noise(random);
@@ -143,10 +154,20 @@ impl Rings {
         }
     }
 
+    /// Takes of every number of messages by one node, with messages on their way to it if there is one; they are not gone on from.
+    fn all_takes(&mut self, ring: &Ring, random: &mut Rng) {
+        let i = random.node(ring.n, |i| ring.pending[i] > 0).unwrap_or(0);
+        for request in takes(i, ring.pending[i]) {
+            let told = same_step(self.seed, &LentRing::of(ring), request);
+            self.takes.count(ring, request, told == 0);
+        }
+    }
+
     fn report(&self, report: &mut Report) {
         self.starts.report_all(&RING_START, report);
         report.at_least("ring: runs announced", self.announced, ANNOUNCED);
         self.sizes.report("ring", &ON_RINGS, MAX_NODES, report);
+        self.takes.report("ring", &TAKES, report);
         self.steps.report_half(&OF_SOUND, report);
         self.wild_steps.report(&[3], report);
         self.soundness.report_all(&IS_SOUND, report);
@@ -181,6 +202,19 @@ fn near_send_limit(random: &mut Rng) -> Ring {
     ring.sent[sender] = SEND_LIMIT - random.below(4) as u32;
     ring.received[receiver] = ring.sent[sender] - pending;
     ring.pending[next] = pending;
+    assert!(ring.is_sound(), "the token is black");
+    ring
+}
+
+/// A ring with messages on their way to a node, mostly more than few.
+fn with_messages(random: &mut Rng) -> Ring {
+    let mut ring = started(random);
+    let node = |random: &mut Rng| random.below(ring.n);
+    let (sender, receiver) = (node(random), node(random));
+    let (taken, pending) = (random.below(5) as u32, waiting(random));
+    ring.sent[sender] = taken + pending;
+    ring.received[receiver] = taken;
+    ring.pending[receiver] = pending;
     assert!(ring.is_sound(), "the token is black");
     ring
 }

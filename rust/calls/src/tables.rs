@@ -4,7 +4,7 @@ use crate::answers::{Answers, BySize};
 use crate::fail;
 use crate::lent::LentRing;
 use crate::lent_table::LentTable;
-use crate::requests::{no_counts, request, Course};
+use crate::requests::{no_counts, request, takes, waiting, Course};
 use crate::rings::{broken, FIELDS};
 use second::bounds::answers::{IS_SOUND, OF_TABLE_STEP, TABLE_START};
 use second::bounds::calls::BROKEN;
@@ -17,6 +17,7 @@ use second::request::{Request, SEND_LIMIT};
 use second::ring::{Ring, MAX_NODES};
 use second::sizes::Sizes;
 use second::table::{Table, UPDATES};
+use second::takes::Takes;
 
 pub fn compare(seed: u64, report: &mut Report) {
     let mut random = Rng::new(seed);
@@ -43,6 +44,7 @@ struct Tables {
     wild_starts: Answers,
     wild_steps: Answers,
     sizes: Sizes,
+    takes: Takes,
     announced: usize,
     fresh_when_open: usize,
     fresh_when_announced: usize,
@@ -99,6 +101,20 @@ impl Running {
         running
     }
 
+    /// Updates with messages on their way to one node, mostly more than few.
+    fn with_messages(random: &mut Rng) -> Self {
+        let mut running = Self::new(random);
+        for update in 0..UPDATES {
+            if random.chance(50) {
+                let sends = waiting(random) + random.below(5) as u32;
+                let ring = ring_with_sends(running.n, sends, random);
+                running.lent.set(update, &LentRing::of(&ring));
+                running.courses[update] = Some(Course::new(random));
+            }
+        }
+        running
+    }
+
     fn ring(&self, update: usize) -> Option<Ring> {
         let place = self
             .lent
@@ -112,7 +128,7 @@ impl Running {
 fn ring_with_sends(n: usize, sends: u32, random: &mut Rng) -> Ring {
     let flags: Vec<u8> = (0..n).map(|_| random.below(4) as u8 | 1).collect();
     let mut ring = Ring::start(n, &flags).expect("a start in range");
-    let pending = sends.min(random.below(5) as u32);
+    let pending = sends.min(waiting(random));
     ring.sent[random.below(n)] = sends;
     ring.received[random.below(n)] = sends - pending;
     ring.pending[random.below(n)] = pending;
@@ -130,6 +146,7 @@ impl Tables {
             wild_starts: Answers::new("table: starts on wild tables"),
             wild_steps: Answers::new("table: steps of wild tables"),
             sizes: Sizes::default(),
+            takes: Takes::default(),
             announced: 0,
             fresh_when_open: 0,
             fresh_when_announced: 0,
@@ -142,10 +159,14 @@ impl Tables {
 
     /// Calls of interleaved updates, each compared; now and then a wild table.
     fn run(&mut self, random: &mut Rng) {
-        let mut running = match random.below(4) {
+        let mut running = match random.below(5) {
             0 => Running::near_send_limit(random),
+            1 => Running::with_messages(random),
             _ => Running::new(random),
         };
+        for update in 0..UPDATES {
+            self.all_takes(&running, update, random);
+        }
         // Few at a time on large rings, so that they are announced.
         let most = if LARGE_RINGS.contains(&running.n) {
             UPDATES / 2
@@ -159,6 +180,7 @@ impl Tables {
             match random.below(100) {
                 0..=3 => self.any_start(&mut running, random),
                 4..=6 => self.stray(&running, random),
+                17 => self.all_takes(&running, update, random),
                 7..=16 => self.wild(&running.lent, random),
                 _ => self.advance(&mut running, update, random),
             }
@@ -186,6 +208,9 @@ impl Tables {
         let (told, next) = same_step(self.seed, &running.lent, update, request);
         self.steps.count(ring.n, told);
         self.sizes.count(ring.n, told == 0);
+        if !ring.closed {
+            self.takes.count(ring, request, told == 0);
+        }
         self.accepted[update] += usize::from(told == 0);
         running.lent = next;
         let closed = running.ring(update).is_some_and(|ring| ring.closed);
@@ -196,6 +221,18 @@ impl Tables {
         } else if told == 0 && request.kind == 1 && running.freed {
             self.given_back += usize::from(running.limited == Some(update));
             running.freed = false;
+        }
+    }
+
+    /// Takes of every number of messages by one node of an update that runs; they are not gone on from.
+    fn all_takes(&mut self, running: &Running, update: usize, random: &mut Rng) {
+        let Some(ring) = running.ring(update).filter(|ring| !ring.closed) else {
+            return;
+        };
+        let i = random.node(ring.n, |i| ring.pending[i] > 0).unwrap_or(0);
+        for request in takes(i, ring.pending[i]) {
+            let (told, _) = same_step(self.seed, &running.lent, update, request);
+            self.takes.count(&ring, request, told == 0);
         }
     }
 
@@ -291,6 +328,7 @@ impl Tables {
         self.wild_starts.report(&[3], report);
         self.wild_steps.report(&[3], report);
         self.sizes.report("table", &ON_TABLES, SIZES, report);
+        self.takes.report("table", &TAKES, report);
         report.at_least("table: updates announced", self.announced, ANNOUNCED);
         let fresh = [
             ("open", self.fresh_when_open),
