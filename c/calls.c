@@ -113,7 +113,7 @@ static void ring_steps(struct muzserlik_ring *ring)
 {
     CHECK(muzserlik_ring_step(ring, MUZSERLIK_SEND, 0, 1) == MUZSERLIK_ACCEPTED);
     CHECK(muzserlik_ring_step(ring, MUZSERLIK_SEND, 2, 1) == MUZSERLIK_ACCEPTED);
-    CHECK(muzserlik_ring_step(ring, MUZSERLIK_TAKE, 1, 99) == MUZSERLIK_ACCEPTED);
+    CHECK(muzserlik_ring_step(ring, MUZSERLIK_TAKE, 1, 1) == MUZSERLIK_ACCEPTED);
     CHECK(muzserlik_ring_step(ring, MUZSERLIK_PROBE, 99, 99) == MUZSERLIK_ACCEPTED);
     CHECK(muzserlik_ring_step(ring, MUZSERLIK_IDLE, 2, 99) == MUZSERLIK_ACCEPTED);
     CHECK(muzserlik_ring_step(ring, MUZSERLIK_PASS, 2, 99) == MUZSERLIK_ACCEPTED);
@@ -159,7 +159,7 @@ static void ring_drives(struct muzserlik_ring *ring)
     const struct muzserlik_ring now = {
         .n = 3, .active = {1, 0, 0}, .sent = {1, 0, 1}, .received = {0, 1, 0}, .pending = {0, 1, 0}, .q = 0, .black = 1};
     CHECK(same_rings(ring, &now));
-    CHECK(muzserlik_ring_step(ring, MUZSERLIK_TAKE, 1, 0) == MUZSERLIK_ACCEPTED);
+    CHECK(muzserlik_ring_step(ring, MUZSERLIK_TAKE, 1, 1) == MUZSERLIK_ACCEPTED);
     CHECK(muzserlik_ring_step(ring, MUZSERLIK_IDLE, 1, 0) == MUZSERLIK_ACCEPTED);
     CHECK(muzserlik_ring_step(ring, MUZSERLIK_IDLE, 0, 0) == MUZSERLIK_ACCEPTED);
     CHECK(ring_refusal(ring, MUZSERLIK_ANNOUNCE, 0, 0) == MUZSERLIK_REFUSED_RULE_FAILS);
@@ -186,7 +186,7 @@ static void ring_by_hand(struct muzserlik_ring *ring)
     uint32_t moves = 77;
     *ring = first;
     CHECK(muzserlik_ring_is_sound(ring) == 1);
-    CHECK(muzserlik_ring_step(ring, MUZSERLIK_TAKE, 2, 99) == MUZSERLIK_ACCEPTED);
+    CHECK(muzserlik_ring_step(ring, MUZSERLIK_TAKE, 2, 1) == MUZSERLIK_ACCEPTED);
     const struct muzserlik_ring taken = {.n = 4,
                                          .active = {1, 0, 1, 0},
                                          .color = {12},
@@ -207,6 +207,29 @@ static void ring_by_hand(struct muzserlik_ring *ring)
                                           .q = 7,
                                           .black = 1};
     CHECK(same_rings(ring, &driven) && muzserlik_ring_is_sound(ring) == 1);
+}
+
+/* Node 1 takes as many messages as it asks for: 1 to 1,000 of the 1,206 that are on their way to it, and after that 1 to 206. */
+static void ring_takes(struct muzserlik_ring *ring)
+{
+    const struct muzserlik_ring first = {.n = 3, .active = {1}, .sent = {1211}, .received = {0, 3, 2}, .pending = {0, 1206, 0}, .black = 1};
+    const size_t refused[] = {0, 1001, 1206, 1207, 99999, ((size_t)1 << 32) + 1, (size_t)-1};
+    *ring = first;
+    CHECK(muzserlik_ring_is_sound(ring) == 1);
+    for (size_t k = 0; k < sizeof refused / sizeof refused[0]; k++) {
+        CHECK(ring_refusal(ring, MUZSERLIK_TAKE, 1, refused[k]) == MUZSERLIK_REFUSED_RULE_FAILS);
+        CHECK(ring_refusal(ring, MUZSERLIK_TAKE, 3, refused[k]) == MUZSERLIK_REFUSED_UNKNOWN_NODE);
+    }
+    CHECK(muzserlik_ring_step(ring, MUZSERLIK_TAKE, 1, 1000) == MUZSERLIK_ACCEPTED);
+    const struct muzserlik_ring most = {
+        .n = 3, .active = {1, 1}, .color = {2}, .sent = {1211}, .received = {0, 1003, 2}, .pending = {0, 206, 0}, .black = 1};
+    CHECK(same_rings(ring, &most) && muzserlik_ring_is_sound(ring) == 1);
+    CHECK(ring_refusal(ring, MUZSERLIK_TAKE, 1, 207) == MUZSERLIK_REFUSED_RULE_FAILS);
+    CHECK(ring_refusal(ring, MUZSERLIK_TAKE, 2, 1) == MUZSERLIK_REFUSED_RULE_FAILS);
+    CHECK(muzserlik_ring_step(ring, MUZSERLIK_TAKE, 1, 5) == MUZSERLIK_ACCEPTED);
+    CHECK(muzserlik_ring_step(ring, MUZSERLIK_TAKE, 1, 201) == MUZSERLIK_ACCEPTED);
+    const struct muzserlik_ring all = {.n = 3, .active = {1, 1}, .color = {2}, .sent = {1211}, .received = {0, 1209, 2}, .black = 1};
+    CHECK(same_rings(ring, &all) && muzserlik_ring_is_sound(ring) == 1);
 }
 
 /* Sound by the first of Safra's four alone, by none, by the last alone: q and black decide. */
@@ -352,6 +375,7 @@ int main(void)
     ring_unsound(&ring);
     ring_drives(&ring);
     ring_by_hand(&ring);
+    ring_takes(&ring);
     ring_clauses(&ring);
     ring_limit(&ring);
     struct muzserlik_tree tree;

@@ -17,8 +17,9 @@
  *     at the same time in different threads, calls on the same struct may not.
  *
  * The caller sees to it that
- *   - the steps tell what the nodes do: SEND before a message leaves, and none leaves whose SEND is refused; TAKE as it is received; IDLE as a node
- *     becomes passive. An announcement is proved right of the accepted steps, not of nodes that do something else;
+ *   - the steps tell what the nodes do: SEND before a message leaves, and none leaves whose SEND is refused; TAKE as it is received, on a ring with
+ *     the number of messages that are received at once; IDLE as a node becomes passive. An announcement is proved right of the accepted steps,
+ *     not of nodes that do something else;
  *   - a pointer points to as much memory as its type or the length beside it says, aligned as its type asks (a struct that is declared as one
  *     is), and is not null; with a length of 0 the inline functions take any pointer, also a null one;
  *   - what is written to overlaps nothing else of the same call: `moves`, or `buffer` and `length`, lie outside the struct and apart from each
@@ -27,8 +28,9 @@
  *   - nobody else writes to what is lent before the call returns.
  * Where this is not so no call can tell, and nothing is promised.
  *
- * Nodes, kinds, counts and limits that are handed in are size_t, so that none is cut down on its way: a kind of 257 is an unknown kind, and -1 is no
- * node. A struct may be copied by assignment. It has padding: memcmp does not compare two rings or two trees.
+ * Nodes, kinds, counts and limits that are handed in are size_t, so that none is cut down on its way: a kind of 257 is an unknown kind, -1 is no
+ * node, and a take of 2^32 + 1 messages is not one of 1. A struct may be copied by assignment. It has padding: memcmp does not compare two rings or two
+ * trees.
  *
  * The archive needs memcpy and memset, and nothing else; it has no data of its own that is written to, and takes no memory but the stack, less than
  * 32 KiB, a call on a table less than 80 KiB (measured). A step first walks the whole struct to see that it is sound. Header and archive are of one checkout: neither has a version.
@@ -103,7 +105,8 @@ enum muzserlik_answer {
  *
  *   a ring; the counter of a node is what it sent less what it received
  *   SEND i j   i is active: one more message is on its way to j
- *   TAKE i     a message is on its way to i: i receives it, and becomes active and black
+ *   TAKE i j   j is 1 to 1,000, and at least j messages are on their way to i: i receives j of them, and becomes active and black. Here j is how many
+ *              messages are taken, not a node: whatever it is, it is not refused with 6
  *   IDLE i     i is active: it becomes passive
  *   PROBE      node 0 has the token; the token is black, or node 0 is, or q plus the counter of node 0 is above 0: the token goes to node n - 1,
  *              white, with the sum 0, and node 0 becomes white
@@ -227,7 +230,11 @@ static inline int muzserlik_ring_start(struct muzserlik_ring *ring, size_t n, co
                                        ring->received, ring->pending, &ring->pos, &ring->q, &ring->black, &ring->closed);
 }
 
-/* One step (enum muzserlik_kind); a number that its kind does not use is not read. 0, or 3 to 9 with the ring as it was. */
+/*
+ * One step (enum muzserlik_kind); a number that its kind does not use is not read. TAKE reads j as how many messages it takes, 1 to 1,000, else 8: a
+ * call that takes one message says 1, and one that leaves j 0, as it could before TAKE read it, is refused with 8 now. 0, or 3 to 9 with the ring as
+ * it was.
+ */
 static inline int muzserlik_ring_step(struct muzserlik_ring *ring, size_t kind, size_t i, size_t j)
 {
     return muzserlik_ring_step_fields(ring->n, ring->active, ring->color, ring->sent, ring->received, ring->pending, &ring->pos, &ring->q,
@@ -273,7 +280,10 @@ static inline int muzserlik_table_start(struct muzserlik_table *table, size_t up
                                         table->received, table->pending, update, n, count == 0 ? &none : flags, count);
 }
 
-/* One step of a ring, of an update. 0, and no other update's places are written to; 3, 13, or 4 to 9 with the table as it was. */
+/*
+ * One step of a ring, of an update; so TAKE reads j as how many messages it takes, 1 to 1,000, else 8, and one that leaves j 0 is refused with 8 now.
+ * 0, and no other update's places are written to; 3, 13, or 4 to 9 with the table as it was.
+ */
 static inline int muzserlik_table_step(struct muzserlik_table *table, size_t update, size_t kind, size_t i, size_t j)
 {
     return muzserlik_table_step_fields(table->n, table->pos, table->q, table->black, table->closed, table->active, table->color, table->sent,

@@ -13,15 +13,15 @@
 
 static const char *const words[] = {"", "send", "take", "idle", "probe", "pass", "announce"};
 
-/* How many numbers each kind uses. */
+/* How many numbers of each kind are printed: a take here is of one message, and the log says so by no number. */
 static const int numbers[] = {0, 2, 1, 1, 0, 1, 0};
 
 static const struct {
     size_t kind, i, j;
 } steps[] = {
     {MUZSERLIK_PROBE, 0, 0},    {MUZSERLIK_PASS, 2, 0}, /* the token has passed node 2, and is at node 1 */
-    {MUZSERLIK_SEND, 1, 2},     {MUZSERLIK_TAKE, 2, 0}, /* the receipt behind it: node 2 is active and black */
-    {MUZSERLIK_SEND, 2, 1},     {MUZSERLIK_TAKE, 1, 0}, {MUZSERLIK_IDLE, 1, 0},
+    {MUZSERLIK_SEND, 1, 2},     {MUZSERLIK_TAKE, 2, 1}, /* the receipt behind it: node 2 is active and black */
+    {MUZSERLIK_SEND, 2, 1},     {MUZSERLIK_TAKE, 1, 1}, {MUZSERLIK_IDLE, 1, 0},
     {MUZSERLIK_PASS, 1, 0},     /* node 1 is black, and so the token is */
     {MUZSERLIK_ANNOUNCE, 0, 0}, /* too early */
     {MUZSERLIK_PROBE, 0, 0},    {MUZSERLIK_IDLE, 2, 0}, /* now every node is passive */

@@ -121,7 +121,7 @@ static void steps(struct muzserlik_table *table)
 {
     const struct {
         size_t kind, i, j;
-    } steps[] = {{MUZSERLIK_SEND, 0, 1},    {MUZSERLIK_SEND, 2, 1},  {MUZSERLIK_TAKE, 1, 99},
+    } steps[] = {{MUZSERLIK_SEND, 0, 1},    {MUZSERLIK_SEND, 2, 1},  {MUZSERLIK_TAKE, 1, 1},
                  {MUZSERLIK_PROBE, 99, 99}, {MUZSERLIK_IDLE, 2, 99}, {MUZSERLIK_PASS, 2, 99}};
     struct muzserlik_table now = *table;
     for (size_t k = 0; k < sizeof steps / sizeof steps[0]; k++)
@@ -150,7 +150,7 @@ static void steps(struct muzserlik_table *table)
     /* refused, and once the node is active the same step again */
     CHECK(step_refusal(table, 7, MUZSERLIK_SEND, 2, 0) == MUZSERLIK_REFUSED_RULE_FAILS);
     CHECK(muzserlik_table_step(table, 7, MUZSERLIK_SEND, 0, 2) == MUZSERLIK_ACCEPTED);
-    CHECK(muzserlik_table_step(table, 7, MUZSERLIK_TAKE, 2, 0) == MUZSERLIK_ACCEPTED);
+    CHECK(muzserlik_table_step(table, 7, MUZSERLIK_TAKE, 2, 1) == MUZSERLIK_ACCEPTED);
     CHECK(muzserlik_table_step(table, 7, MUZSERLIK_SEND, 2, 0) == MUZSERLIK_ACCEPTED);
 }
 
@@ -210,6 +210,35 @@ static void ends(struct muzserlik_table *table)
     CHECK(same_tables(table, &now) && muzserlik_table_is_sound(table) == 1);
 }
 
+/* Each update has an inbox of its own: 1,300 messages are on their way to node 1 of update 3, and two to that of update 5. */
+static void takes(struct muzserlik_table *table)
+{
+    const struct muzserlik_ring full = {.n = 2, .active = {1, 0}, .sent = {1300, 0}, .pending = {0, 1300}, .black = 1};
+    const struct muzserlik_ring few = {.n = 2, .active = {1, 0}, .sent = {2, 0}, .pending = {0, 2}, .black = 1};
+    const size_t refused[] = {0, 1001, 1300, 1301, ((size_t)1 << 32) + 1, (size_t)-1};
+    *table = noise();
+    put(table, 3, &full);
+    put(table, 5, &few);
+    CHECK(muzserlik_table_is_sound(table) == 1);
+    for (size_t k = 0; k < sizeof refused / sizeof refused[0]; k++) {
+        CHECK(step_refusal(table, 3, MUZSERLIK_TAKE, 1, refused[k]) == MUZSERLIK_REFUSED_RULE_FAILS);
+        CHECK(step_refusal(table, 3, MUZSERLIK_TAKE, 2, refused[k]) == MUZSERLIK_REFUSED_UNKNOWN_NODE);
+        CHECK(step_refusal(table, 4, MUZSERLIK_TAKE, 1, refused[k]) == MUZSERLIK_REFUSED_UNKNOWN_UPDATE);
+    }
+    CHECK(step_refusal(table, 5, MUZSERLIK_TAKE, 1, 3) == MUZSERLIK_REFUSED_RULE_FAILS);
+    struct muzserlik_table now = *table;
+    const struct muzserlik_ring most = {
+        .n = 2, .active = {1, 1}, .color = {2}, .sent = {1300, 0}, .received = {0, 1000}, .pending = {0, 300}, .black = 1};
+    CHECK(muzserlik_table_step(table, 3, MUZSERLIK_TAKE, 1, 1000) == MUZSERLIK_ACCEPTED);
+    put(&now, 3, &most);
+    CHECK(same_tables(table, &now) && muzserlik_table_is_sound(table) == 1);
+    CHECK(step_refusal(table, 3, MUZSERLIK_TAKE, 1, 301) == MUZSERLIK_REFUSED_RULE_FAILS);
+    const struct muzserlik_ring both = {.n = 2, .active = {1, 1}, .color = {2}, .sent = {2, 0}, .received = {0, 2}, .black = 1};
+    CHECK(muzserlik_table_step(table, 5, MUZSERLIK_TAKE, 1, 2) == MUZSERLIK_ACCEPTED);
+    put(&now, 5, &both);
+    CHECK(same_tables(table, &now) && muzserlik_table_is_sound(table) == 1);
+}
+
 /* Two updates with 999,999 sends between them: one more is accepted, of either; then 9 to both, until one of them is started afresh. */
 static void limit(struct muzserlik_table *table)
 {
@@ -228,7 +257,7 @@ static void limit(struct muzserlik_table *table)
     CHECK(step_refusal(table, 0, MUZSERLIK_SEND, 0, 1) == MUZSERLIK_REFUSED_SEND_LIMIT);
     CHECK(step_refusal(table, 6, MUZSERLIK_SEND, 0, 1) == MUZSERLIK_REFUSED_SEND_LIMIT);
     CHECK(step_refusal(table, 6, MUZSERLIK_SEND, 0, 0) == MUZSERLIK_REFUSED_SELF_MESSAGE);
-    CHECK(muzserlik_table_step(table, 6, MUZSERLIK_TAKE, 0, 0) == MUZSERLIK_ACCEPTED);
+    CHECK(muzserlik_table_step(table, 6, MUZSERLIK_TAKE, 0, 1) == MUZSERLIK_ACCEPTED);
     CHECK(muzserlik_table_start(table, 1, 2, flags, 2) == MUZSERLIK_ACCEPTED);
     CHECK(step_refusal(table, 1, MUZSERLIK_SEND, 0, 1) == MUZSERLIK_REFUSED_SEND_LIMIT);
     struct muzserlik_table over = *table;
@@ -289,6 +318,7 @@ int main(void)
     steps(&table);
     bytes(&table);
     ends(&table);
+    takes(&table);
     limit(&table);
     beside_rings(&table);
     printf("calls from C on tables: %d checks\n", checks);
