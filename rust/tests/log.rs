@@ -283,6 +283,16 @@ fn the_largest_take() {
     ));
 }
 
+/// The sample's answers, which were worked out by hand.
+#[test]
+fn the_sample_of_an_inbox() {
+    let read = |name: &str| {
+        let path = format!("{}/../samples/inbox.{name}", env!("CARGO_MANIFEST_DIR"));
+        std::fs::read(path).expect("the sample")
+    };
+    assert_eq!(run(&read("log")), read("out"));
+}
+
 /// A tree's take names the sender, not a number of messages.
 #[test]
 fn a_trees_take_is_of_one_message() {

@@ -1,8 +1,9 @@
 //! Compares the proved functions, called through a static library, with the second implementation: starts; the steps of whole runs, which
 //! are guided by their states; wild states; the ring's driver; every value of each byte that stands for a truth; the tree's text, written,
-//! read back and damaged; tables of eight updates, through the header's functions; and walks the states of EWD998 for N = 3 with the proved step, against document 001's table. Takes are of every number of messages, on
-//! nodes with none to more than a take may be of. What is lent to be
-//! written holds noise before each call, and a refusal must leave every byte of it; what is lent to be read is compared after each call too.
+//! read back and damaged; tables of eight updates, through the header's functions; and walks the states of EWD998 for N = 3 with the proved step,
+//! against document 001's table. Takes are of every number of messages, by nodes to which none to more than a take may be of are on their way. What
+//! is lent to be written holds noise before each call, and a refusal must leave every byte of it; what is lent to be read is compared after each
+//! call too.
 //! It prints what was met, each figure with its bound, and fails if one is not within it.
 
 mod answers;
