@@ -171,6 +171,14 @@ fn after_a_bad_first_line_nothing_follows() {
     assert_eq!(answers(b"\n(ring 2)\n"), "(no 1 10)\n");
 }
 
+/// After a ring's start.
+fn assert_no_form(line: &str) {
+    let log = format!("(ring 2)\n{line}\n");
+    let expected =
+        "(ok 1)\n(no 2 10)\n(end (boards 2) (holder 0) (moves 0) (flight 0) (black 0))\n";
+    assert_eq!(answers(log.as_bytes()), expected, "{line}");
+}
+
 #[test]
 fn ring_lines_that_are_not_a_form() {
     for line in [
@@ -197,6 +205,23 @@ fn ring_lines_that_are_not_a_form() {
         "(send 0 +1)",
         "(send 0,1)",
         "(take)",
+        "(ack 0)",
+        "(leave 1)",
+        "(announce 0)",
+        "(ring 2)",
+        "(tree 3 (root 0))",
+        "(probe)\r",
+        "(probe\0)",
+        "\u{ff}(probe)",
+    ] {
+        assert_no_form(line);
+    }
+}
+
+#[test]
+fn takes_that_are_not_a_form() {
+    for line in [
+        "(take)",
         "(take )",
         "(take 1 )",
         "(take  1)",
@@ -210,19 +235,8 @@ fn ring_lines_that_are_not_a_form() {
         "(take 1,5)",
         "(take 1 5",
         "(Take 1 5)",
-        "(ack 0)",
-        "(leave 1)",
-        "(announce 0)",
-        "(ring 2)",
-        "(tree 3 (root 0))",
-        "(probe)\r",
-        "(probe\0)",
-        "\u{ff}(probe)",
     ] {
-        let log = format!("(ring 2)\n{line}\n");
-        let expected =
-            "(ok 1)\n(no 2 10)\n(end (boards 2) (holder 0) (moves 0) (flight 0) (black 0))\n";
-        assert_eq!(answers(log.as_bytes()), expected, "{line}");
+        assert_no_form(line);
     }
 }
 

@@ -91,6 +91,13 @@ fn first_lines_that_are_refused() {
     assert_eq!(answers(b"(update 2 (ring 2))"), "(no 1 10)\n");
 }
 
+/// After the start of update 2.
+fn assert_refused(line: &str, number: u32) {
+    let log = format!("(update 2 (ring 2))\n{line}\n");
+    let expected = format!("(ok 1)\n(no 2 {number})\n(update 2 {BLANK})\n");
+    assert_eq!(answers(log.as_bytes()), expected, "{line}");
+}
+
 #[test]
 fn later_lines_that_are_refused() {
     for (line, number) in [
@@ -108,6 +115,27 @@ fn later_lines_that_are_refused() {
         ("(update 2 (send 0 2))", 6),
         ("(update 2 (send 1 1))", 7),
         ("(update 2 (take 1))", 8),
+        ("(update 100000 (probe))", 10),
+        ("(update 02 (probe))", 10),
+        ("(update 2 (probe)", 10),
+        ("(update 2 (probe)))", 10),
+        ("(update 2 (probe 0))", 10),
+        ("(update 2 (ack 0))", 10),
+        ("(update 2 (tree 2 (root 0)))", 10),
+        ("(update 2 (update 2 (probe)))", 10),
+        ("(update 2 (end))", 10),
+        ("(probe)", 10),
+        ("(ring 2)", 10),
+        ("(tree 3 (root 0))", 10),
+        ("", 10),
+    ] {
+        assert_refused(line, number);
+    }
+}
+
+#[test]
+fn takes_that_are_refused() {
+    for (line, number) in [
         ("(update 2 (take 1 1))", 8),
         ("(update 2 (take 1 0))", 8),
         ("(update 2 (take 1 1001))", 8),
@@ -123,23 +151,8 @@ fn later_lines_that_are_refused() {
         ("(update 2 (take 1 5 1))", 10),
         ("(update 2 (take 1 5)", 10),
         ("(take 1 5)", 10),
-        ("(update 100000 (probe))", 10),
-        ("(update 02 (probe))", 10),
-        ("(update 2 (probe)", 10),
-        ("(update 2 (probe)))", 10),
-        ("(update 2 (probe 0))", 10),
-        ("(update 2 (ack 0))", 10),
-        ("(update 2 (tree 2 (root 0)))", 10),
-        ("(update 2 (update 2 (probe)))", 10),
-        ("(update 2 (end))", 10),
-        ("(probe)", 10),
-        ("(ring 2)", 10),
-        ("(tree 3 (root 0))", 10),
-        ("", 10),
     ] {
-        let log = format!("(update 2 (ring 2))\n{line}\n");
-        let expected = format!("(ok 1)\n(no 2 {number})\n(update 2 {BLANK})\n");
-        assert_eq!(answers(log.as_bytes()), expected, "{line}");
+        assert_refused(line, number);
     }
 }
 
