@@ -29,8 +29,8 @@
  * Where this is not so no call can tell, and nothing is promised.
  *
  * Nodes, kinds, counts and limits that are handed in are size_t, so that none is cut down on its way: a kind of 257 is an unknown kind, -1 is no
- * node, and a take of 2^32 + 1 messages is not one of 1. A struct may be copied by assignment. It has padding: memcmp does not compare two rings or two
- * trees.
+ * node, and a take of 2^32 + 1 messages is not one of 1. A struct may be copied by assignment. It has padding: memcmp does not compare two rings,
+ * trees or tables.
  *
  * The archive needs memcpy and memset, and nothing else; it has no data of its own that is written to, and takes no memory but the stack, less than
  * 32 KiB, a call on a table less than 80 KiB (measured). A step first walks the whole struct to see that it is sound. Header and archive are of one checkout: neither has a version.
@@ -61,6 +61,8 @@ enum {
     MUZSERLIK_TREE_TEXT_BYTES = 69,
     /* accepted sends of one run, at most; of a table, of its started updates together */
     MUZSERLIK_SEND_LIMIT = 1000000,
+    /* messages of one take on a ring, at most */
+    MUZSERLIK_TAKE_LIMIT = 1000,
     /* moves of one drive, at most */
     MUZSERLIK_MOVE_LIMIT = 1000
 };

@@ -54,14 +54,15 @@ fn unknown_updates(t: Table) {
     sound(e);
 }
 
-// The last send, 9 for the next of either update, which comes after 7; takes still pass.
+// The last send, 9 for the next of either update, which comes after 7; takes still pass, of 1,000 messages at once, and not of 1,001.
 fn limit_together(t: Table) -> Table {
     let a = told(t.step(1, 1, 0, 1));
     let b = told(a.step(0, 1, 0, 1));
     let c = told(b.step(1, 1, 0, 1));
     let d = told(c.step(1, 1, 0, 0));
-    let e = told(d.step(0, 2, 1, 0));
-    told(e.step(0, 1, 1, 0))
+    let e = told(d.step(0, 2, 1, 1001));
+    let f = told(e.step(0, 2, 1, 1000));
+    told(f.step(0, 1, 1, 0))
 }
 
 // A fresh start of update 0 gives its sends back; a refused one does not.
@@ -77,7 +78,7 @@ fn started_afresh(t: Table) {
 // One send above the limit: 3, before 13 and 1.
 fn unsound(t: Table) {
     sound(t);
-    let a = told(t.step(0, 2, 1, 0));
+    let a = told(t.step(0, 2, 1, 1));
     let b = told(a.start(8, 3, &[1, 1, 1]));
     sound(b);
 }

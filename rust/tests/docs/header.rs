@@ -93,6 +93,7 @@ fn proved() -> BTreeMap<String, u64> {
         ("TREE_TEXT_BYTES", text_bytes()),
         ("SEND_LIMIT", constant("refusal", "SEND_LIMIT")),
         ("MOVE_LIMIT", constant("ring_rules", "MOVE_LIMIT")),
+        ("TAKE_LIMIT", constant("ring_rules", "TAKE_LIMIT")),
     ]
     .map(|(name, number)| (name.to_owned(), number))
     .into();
@@ -118,7 +119,7 @@ fn proved() -> BTreeMap<String, u64> {
 #[test]
 fn the_constants_are_the_proved_ones() {
     let proved = proved();
-    assert_eq!(proved.len(), 33, "constants");
+    assert_eq!(proved.len(), 34, "constants");
     assert_eq!(told(&read("c/muzserlik.h")), proved);
 }
 
