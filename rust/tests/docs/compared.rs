@@ -3,7 +3,7 @@
 
 use crate::repository::{in_thousands, joined, lost_phrases, places_of, read, section, tables};
 use second::bounds::{
-    answers, calls, logs, tables, texts, updates, Asked, LARGE_RINGS, LARGE_TREES,
+    answers, calls, logs, tables, texts, updates, Asked, TakesAsked, LARGE_RINGS, LARGE_TREES,
 };
 use second::log::{LINE_BYTES, LINE_LIMIT};
 use second::sizes::range_name;
@@ -289,6 +289,26 @@ fn sizes() -> Vec<Vec<String>> {
     ]
 }
 
+/// A row of the table of takes.
+fn takes_row(name: &str, asked: &TakesAsked) -> Vec<String> {
+    let widths: Vec<String> = asked.widths.iter().map(u32::to_string).collect();
+    let cut = format!("{} ({})", in_thousands(asked.cut), widths.join(", "));
+    let [several, reasons, limit] = [asked.several, asked.reasons, asked.limit].map(in_thousands);
+    vec![name.to_owned(), several, reasons, limit, cut]
+}
+
+/// The rows of the table of takes, which is the section's third.
+fn takes() -> Vec<Vec<String>> {
+    let large = range_name("logs, rings", &LARGE_RINGS);
+    vec![
+        takes_row("logs, rings", &logs::TAKES),
+        takes_row(&large, &logs::TAKES_ON_LARGE),
+        takes_row("logs, updates", &updates::TAKES),
+        takes_row("calls, rings", &calls::TAKES),
+        takes_row("calls, tables", &tables::TAKES),
+    ]
+}
+
 /// The section without the table of sizes.
 fn text(page: &str) -> String {
     let text = section(page, HEADING);
@@ -333,6 +353,22 @@ fn the_table_of_sizes_is_what_is_asked() {
     let page = page();
     assert_eq!(tables(section(&page, HEADING)).get(1), Some(&sizes()));
     assert_eq!(calls_ranges(), logs_ranges());
+}
+
+#[test]
+fn the_table_of_takes_is_what_is_asked() {
+    let page = page();
+    let text = section(&page, HEADING);
+    let found = tables(text).swap_remove(2);
+    assert_eq!(found[1..], takes());
+    let limit = format!(
+        "of {} accepted, of {} refused",
+        in_thousands(ring::TAKE_LIMIT),
+        in_thousands(ring::TAKE_LIMIT + 1)
+    );
+    assert!(found[0][3].starts_with(&limit), "{}", found[0][3]);
+    assert_eq!(logs::SPELLINGS, updates::SPELLINGS);
+    assert!(text.contains(&filled("that is no form, {} times:", &[logs::SPELLINGS])));
 }
 
 fn logs_ranges() -> Vec<String> {
