@@ -2,8 +2,8 @@
 use Prim.Native.Nat.{_+_, _<_, _≤_, ℕ}
 use borrow.Author.Tests.{eqb-false, eqb-true}
 use lib.Dec.{eqb}
-use lib.ListN.{List·getD-eq-default, getD, length, length-take, take}
-use lib.Seq.{getD-take}
+use lib.ListN.{List·getD-eq-default, getD, length, length-take, set, take}
+use lib.Seq.{getD-take, set-getD}
 use mathlib.Core.Bool.{Bool, cond, false, true}
 use mathlib.Core.List.{List, [], _++_, _∷_, append-assoc, append-nil}
 use mathlib.Core.Path.{_∙_, _≡_, ap, refl, subst, sym}
@@ -18,6 +18,9 @@ use Rattle.forms.specs.Read.{Read, other, read}
 use Rattle.forms.specs.declared.RingStep.{RingStep}
 use Rattle.forms.specs.declared.TreeStep.{TreeStep}
 use Rattle.laws.proofs.Tests.{false-true}
+use Rattle.ring_rules.specs.Answers.{answerOf}
+use Rattle.ring_rules.specs.Rules.{Take}
+use Rattle.table_rules.specs.Answers.{answerOn, stepAsk}
 use Rattle.table_rules.specs.Table.{Table}
 use Rattle.update_forms.proofs.Exact.{wrapped-exact, wrapped-other}
 use Rattle.update_forms.specs.Read.{wrappedAt}
@@ -25,11 +28,11 @@ use Rattle.update_forms.specs.Wrapped.{Wrapped, bare, innerForm, lists, step, u
 use Rattle.log_rules.proofs.Cuts.{long-told, split-take, unended-told}
 use Rattle.log_rules.proofs.Ends.{ended-append, ended-itself, ended-long, form-ended, unended-append}
 use Rattle.log_rules.proofs.InPlace.{same-told}
-use Rattle.log_rules.specs.Answers.{firstTold, fresh, freshTold, lineTold, onRing, onTable, ringStepTold, tableTold, updateFirst}
+use Rattle.log_rules.specs.Answers.{answerText, firstTold, fresh, freshTold, lineTold, onRing, onTable, ringStepTold, tableTold, updateFirst}
 use Rattle.log_rules.specs.Lines.{lineLimit, split}
 use Rattle.log_rules.specs.Output.{linesTold, restOf}
 use Rattle.log_rules.specs.Pieces.{OneLine, PartLine, empty, newline}
-use Rattle.log_rules.specs.Theorems.{LinesCut, LinesOf, LinesRead, LinesSay}
+use Rattle.log_rules.specs.Theorems.{LinesCut, LinesOf, LinesRead, LinesSay, takeTold, updateTakeTold}
 use Rattle.forms.specs.declared.RingStep.the-variants as ringStep
 use Rattle.forms.specs.declared.TreeStep.the-variants as treeStep
 use Rattle.ring_rules.specs.State as ring
@@ -84,6 +87,19 @@ update-said :
     (t : Table) (ms : List ℕ) (k : ℕ) (l : List ℕ) (w : Wrapped) → Says l (wrappedForm w) → lineTold (onTable t ms) k l ≡ tableTold t ms k (read w 0)
 unfolding lineTold
 update-said t ms k l w s = rw (wrapped-read l w (says-first (wrappedForm w) l s)) (same-told t ms k w (past w) 0)
+
+-- a take is no token move
+same-moves : (r : ring.State) (m k i n : ℕ) → ringStepTold r m k (ringStep.Take i n) ≡ takeTold r m k i n
+same-moves r m k i n =
+    let a = answerOf r Take i n in
+    let e : m + 0 ≡ m = omega arith in
+    ap (λ (x : ℕ). record { stage = onRing (a .state) x; text = answerText k (a .verdict) }) e
+
+none-added : (t : Table) (ms : List ℕ) (k u i n : ℕ) → tableTold t ms k (read (step u (ringStep.Take i n)) 0) ≡ updateTakeTold t ms k u i n
+none-added t ms k u i n =
+    let a = answerOn t (stepAsk u 2 i n) in
+    let e : getD ms u 0 + 0 ≡ getD ms u 0 = omega arith in
+    ap (λ (x : List ℕ). record { stage = onTable (a .table) x; text = answerText k (a .verdict) }) (ap (set ms u) e ∙ set-getD ms u 0)
 
 -- no step of a ring or of a tree is wrapped
 abbrev isWrapped : Form → Bool
@@ -141,9 +157,10 @@ lines-say = record {
   tree-wrapped = λ t k l u f s. rw (tree-not l 0 .1 (λ g v. not-bare l (treeForm g) u f (tree-bare g) v s));
   update-bare = λ t ms k l f ne s.
       rw (wrapped-other l 0 .1 (λ w v. ne (updateOf w) (innerForm w) (same-form (line l) f (wrappedForm w) (says-first f l s) v)));
-  take-one = λ r m k l l′ i s t. ring-said r m k l (ringStep.TakeOne i) s ∙ sym (ring-said r m k l′ (ringStep.Take i 1) t);
-  update-take-one = λ t ms k l l′ u i s v.
-      update-said t ms k l (step u (ringStep.TakeOne i)) s ∙ sym (update-said t ms k l′ (step u (ringStep.Take i 1)) v);
+  take-many = λ r m k l i n s. ring-said r m k l (ringStep.Take i n) s ∙ same-moves r m k i n;
+  take-one = λ r m k l i s. ring-said r m k l (ringStep.TakeOne i) s ∙ same-moves r m k i 1;
+  update-take-many = λ t ms k l u i n s. update-said t ms k l (step u (ringStep.Take i n)) s ∙ none-added t ms k u i n;
+  update-take-one = λ t ms k l u i s. update-said t ms k l (step u (ringStep.TakeOne i)) s ∙ none-added t ms k u i 1;
   too-long = λ s k l o h. long-told s k l (ended-itself o) h;
   unended = λ s k l u. unended-told s k u;
   after = λ k l. refl;

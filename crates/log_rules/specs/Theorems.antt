@@ -12,14 +12,28 @@ use Rattle.forms.specs.Form.{Form, Says, lineBytes, ringForm, takeOne, takeWith
 use Rattle.forms.specs.Read.{read}
 use Rattle.forms.specs.declared.RingStep.{RingStep}
 use Rattle.forms.specs.declared.TreeStep.{TreeStep}
-use Rattle.log_rules.specs.Answers.{Stage, firstTold, fresh, lineTold, onRing, onTable, onTree, over, ringStepTold, tableTold, treeStepTold, updateFirst}
+use Rattle.log_rules.specs.Answers.{Stage, Told, answerText, firstTold, fresh, lineTold, onRing, onTable, onTree, over, ringStepTold, tableTold, treeStepTold, updateFirst}
 use Rattle.log_rules.specs.Lines.{linesOf, split}
 use Rattle.log_rules.specs.Output.{linesTold, outputOf}
 use Rattle.log_rules.specs.Pieces.{OneLine, PartLine, notTold}
+use Rattle.ring_rules.specs.Answers.{answerOf}
+use Rattle.ring_rules.specs.Rules.{Take}
+use Rattle.table_rules.specs.Answers.{answerOn, stepAsk}
 use Rattle.table_rules.specs.Table.{Table}
 use Rattle.update_forms.specs.Wrapped.{Wrapped, wrappedForm}
 use Rattle.ring_rules.specs.State as ring
 use Rattle.tree_rules.specs.State as tree
+
+-- node i of a ring, or of an update, takes n messages, asked for in line k: the rule's answer, and no token move
+abbrev pub takeTold : ring.State → ℕ → ℕ → ℕ → ℕ → Told
+takeTold r m k i n =
+    let a = answerOf r Take i n in
+    record { stage = onRing (a .state) m; text = answerText k (a .verdict) }
+
+abbrev pub updateTakeTold : Table → List ℕ → ℕ → ℕ → ℕ → ℕ → Told
+updateTakeTold t ms k u i n =
+    let a = answerOn t (stepAsk u 2 i n) in
+    record { stage = onTable (a .table) ms; text = answerText k (a .verdict) }
 
 -- Demand 1 for a line of a log: one that says a form is carried out as what it says; every other line is refused with 10, and changes
 -- nothing.
@@ -45,20 +59,21 @@ pub record LinesSay : Type 0 where
   pub update-other :
       (t : Table) (ms : List ℕ) (k : ℕ) (l : List ℕ) → OneLine l → ((w : Wrapped) → Says l (wrappedForm w) → ⊥)
       → lineTold (onTable t ms) k l ≡ notTold (onTable t ms) k
-  -- Document 02, Q-1: "If the first line is such a start, every line is wrapped; else a wrapped line is 10."
+  -- Document 02, Q-1: "If the first line is such a start, every line is wrapped; else the log is read as before": a line of the other sort is 10
   pub ring-wrapped :
       (r : ring.State) (m k : ℕ) (l : List ℕ) (u : ℕ) (f : Form) → Says l (update u f) → lineTold (onRing r m) k l ≡ notTold (onRing r m) k
   pub tree-wrapped : (t : tree.State) (k : ℕ) (l : List ℕ) (u : ℕ) (f : Form) → Says l (update u f) → lineTold (onTree t) k l ≡ notTold (onTree t) k
   pub update-bare :
       (t : Table) (ms : List ℕ) (k : ℕ) (l : List ℕ) (f : Form) → ((u : ℕ) (g : Form) → f ≢ update u g) → Says l f
       → lineTold (onTable t ms) k l ≡ notTold (onTable t ms) k
-  -- Document 02, Q-2: "`(take 2)` means one", on a ring and inside an update
-  pub take-one :
-      (r : ring.State) (m k : ℕ) (l l′ : List ℕ) (i : ℕ) → Says l (takeOne i) → Says l′ (takeWith i 1)
-      → lineTold (onRing r m) k l ≡ lineTold (onRing r m) k l′
+  -- Document 02, Q-2: "`(take 2 5)` is new and `(take 2)` means one", on a ring and inside an update
+  pub take-many : (r : ring.State) (m k : ℕ) (l : List ℕ) (i n : ℕ) → Says l (takeWith i n) → lineTold (onRing r m) k l ≡ takeTold r m k i n
+  pub take-one : (r : ring.State) (m k : ℕ) (l : List ℕ) (i : ℕ) → Says l (takeOne i) → lineTold (onRing r m) k l ≡ takeTold r m k i 1
+  pub update-take-many :
+      (t : Table) (ms : List ℕ) (k : ℕ) (l : List ℕ) (u i n : ℕ) → Says l (update u (takeWith i n))
+      → lineTold (onTable t ms) k l ≡ updateTakeTold t ms k u i n
   pub update-take-one :
-      (t : Table) (ms : List ℕ) (k : ℕ) (l l′ : List ℕ) (u i : ℕ) → Says l (update u (takeOne i)) → Says l′ (update u (takeWith i 1))
-      → lineTold (onTable t ms) k l ≡ lineTold (onTable t ms) k l′
+      (t : Table) (ms : List ℕ) (k : ℕ) (l : List ℕ) (u i : ℕ) → Says l (update u (takeOne i)) → lineTold (onTable t ms) k l ≡ updateTakeTold t ms k u i 1
   -- "A line that is too long or lacks its byte 10 is one line, refused with 10."
   pub too-long : (s : Stage) (k : ℕ) (l : List ℕ) → OneLine l → lineBytes < length l → lineTold s k l ≡ notTold s k
   pub unended : (s : Stage) (k : ℕ) (l : List ℕ) → PartLine l → lineTold s k l ≡ notTold s k

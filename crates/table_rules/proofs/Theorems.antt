@@ -12,7 +12,7 @@ use Rattle.ring_rules.specs.Start.{firstState}
 use Rattle.runs.specs.Runs.{acceptedOf, runOf}
 use Rattle.table_rules.proofs.Alone.{alone, not-disturbed, not-disturbed-until}
 use Rattle.table_rules.proofs.Keeps.{after-sends, after-sound, next-fixed, next-sound}
-use Rattle.table_rules.proofs.Limit.{limit-decides, limit-only, limit-rows}
+use Rattle.table_rules.proofs.Limit.{as-ring, limit-decides, limit-only, limit-rows}
 use Rattle.table_rules.proofs.Numbers.{node-count, none-fixed, past, start-accepted, start-fixed, start-flags, unknown-start, unknown-step, unsound-three}
 use Rattle.table_rules.proofs.Soundness.{empty-fixed, empty-sound, fixed-n, table-true, true-table}
 use Rattle.table_rules.specs.Answers.{Ask, Start, Step, after, answerOn, nextTable, rowsOf, verdictOn}
@@ -91,6 +91,7 @@ table-numbers =
       node-count = node-count;
       start-flags = start-flags;
       unsound = unsound-three;
+      as-ring = as-ring;
       fixed-by-started = fixed-n;
       fixed-by-start = λ t u n flags e. ap fixed (accepted-table t (Start u n flags) e) ∙ start-fixed t u n flags e;
       none-fixed = none-fixed;

@@ -8,7 +8,7 @@ use mathlib.Core.Path.{_≡_}
 use Rattle.refusal.specs.Table.{FirstIs, NoneHolds, Row, codeOf, firstOf, sendLimit, stepRows}
 use Rattle.refusal.specs.declared.Refusal.{Refusal}
 use Rattle.refusal.specs.declared.Verdict.the-variants.{Accepted, Refused}
-use Rattle.ring_rules.specs.Answers.{outside, toSelf, unknown}
+use Rattle.ring_rules.specs.Answers.{outside, toSelf, unknown, verdictOf}
 use Rattle.ring_rules.specs.Rules.{Kind, Send, guard, kindOf}
 use Rattle.ring_rules.specs.Start.{flagsTest, startVerdict}
 use Rattle.ring_rules.specs.State.{State}
@@ -60,6 +60,10 @@ pub record TableNumbers : Type 0 where
       → (codeOf (verdictOn t (Start u n flags)) ≡ 2)
       ↔ ((u < 8) × (0 < n) × (n ≤ 96) × ((fixed t ≡ 0) ⊎ (n ≡ fixed t)) × (flagsTest n flags ≡ false))
   pub unsound : (t : Table) → (SoundTable t → ⊥) → (a : Ask) → codeOf (verdictOn t a) ≡ 3
+  -- every step but a send is answered as the ring that stands there answers it; of a take see `TakesAnswered`
+  pub as-ring :
+      (t : Table) → SoundTable t → (u : ℕ) (r : State) → slotAt t u ≡ Started r → (x : Request) → kindOf (x .kind) ≢ Send
+      → verdictOn t (Step u x) ≡ verdictOf r (kindOf (x .kind)) (x .i) (x .j)
   -- the number that is fixed is that of every started update; a start fixes its own; nothing is started where none is fixed
   pub fixed-by-started : (t : Table) → SoundTable t → (u : ℕ) (r : State) → slotAt t u ≡ Started r → fixed t ≡ r .n
   pub fixed-by-start : (t : Table) (u n : ℕ) (flags : List ℕ) → verdictOn t (Start u n flags) ≡ Accepted → fixed (answerOn t (Start u n flags) .table) ≡ n

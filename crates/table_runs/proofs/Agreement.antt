@@ -25,7 +25,7 @@ use Rattle.ring_runs.proofs.Agreed.{one-receipt, other-kind}
 use Rattle.ring_runs.proofs.Agreement as rings
 use Rattle.ring_runs.proofs.Steps.{detected-of}
 use Rattle.ring_runs.proofs.Trace.{run-n, run-sent}
-use Rattle.ring_runs.specs.Agreement.{Reachable, Started as InitBy, nextsIn, nextsOf, sendsMade, shown, shownAfter as shownAfterRing}
+use Rattle.ring_runs.specs.Agreement.{Behaves, Reachable, Started as InitBy, nextsOf, sendsMade, shown, shownAfter as shownAfterRing}
 use Rattle.ring_runs.specs.Counts.{kind, ring, sending, sendsIn}
 use Rattle.ring_runs.specs.EWD998.{Next, Node, SendMsg, Vars, deactivate, environment, initiateProbe, passToken, recvMsg, sendMsg, system, terminationDetected}
 use Rattle.ring_runs.specs.Requests.{announce, idle, pass, probe, send, take}
@@ -201,14 +201,13 @@ module _ (t : Table) (ok : SoundTable t) (u : ℕ) (ls : List Ask) (e : startedO
 
 run-behaves :
     (t : Table) → SoundTable t → (u : ℕ) (ls : List Ask) (r : State) → historyOf u t ls .first ≡ Started r → (h : 0 < r .n)
-    → (s : State) → slotAt (runOf table t ls) u ≡ Started s → InARow (Next h) (nextsIn (historyOf u t ls .taken)) (shown r) (varsOf (r .n) s)
+    → (s : State) → slotAt (runOf table t ls) u ≡ Started s → Behaves h r (historyOf u t ls .taken) s
 run-behaves t ok u ls r e h s at =
     let f = told-of u t ok ls .some r e in
     let xs = heardOf u t ls .steps in
     let same : runOf ring r xs ≡ s = same-state (sym (f .stands) ∙ at) in
-    subst (λ (x : State). InARow (Next h) (nextsIn (historyOf u t ls .taken)) (shown r) (varsOf (r .n) x)) same
-    (subst (λ (acc : List Request). InARow (Next h) (nextsIn acc) (shown r) (varsOf (r .n) (runOf ring r xs))) (sym (f .accepted))
-    (rings.runs-agree h .run-is-behaviour r (f .sound) refl xs))
+    subst (Behaves h r (historyOf u t ls .taken)) same
+    (subst (λ (acc : List Request). Behaves h r acc (runOf ring r xs)) (sym (f .accepted)) (rings.runs-agree h .run-is-behaviour r (f .sound) refl xs))
 
 -- no more requests are accepted than are made
 accepted-length : (r : State) (xs : List Request) → length (acceptedOf ring r xs) ≤ length xs

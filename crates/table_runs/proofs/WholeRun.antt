@@ -149,6 +149,7 @@ module _ (t : Table) (ok : SoundTable t) (u : ℕ) (ls : List Ask) (r : State) (
           activity = λ b. p .activity b ∙ ap (λ (l : List Request). activeIn r l b) (sym same);
           transit = λ b. p .transit b ∙ ap (λ (l : List Request). transitIn r l b) (sym same);
           enough = λ b. subst (λ (l : List Request). takesBy l b ≤ pendingAt r b + sendsTo l b) (sym same) (p .enough b);
+          received = λ b. p .received b ∙ ap (λ (l : List Request). receivedAt r b + takesBy l b) (sym same);
           quiet = λ x e a. by-quiet r xs acc same (p .quiet x e (ring-accepts here sound-here u s (follows .stands) x a));
           last =
               λ e bs h.

@@ -9,10 +9,10 @@ use mathlib.Core.Path.{_≡_}
 use Rattle.refusal.specs.Table.{sendLimit, settle}
 use Rattle.refusal.specs.declared.Refusal.the-variants.{SendLimit}
 use Rattle.refusal.specs.declared.Verdict.the-variants.{Accepted, Refused}
-use Rattle.ring_rules.specs.Rules.{Announce, Send, takeLimit}
+use Rattle.ring_rules.specs.Rules.{Announce, Send}
 use Rattle.ring_rules.specs.Start.{firstState}
 use Rattle.ring_rules.specs.State.{State}
-use Rattle.ring_runs.specs.Agreement.{Reachable, Started as InitBy, nextsIn, nextsOf, sendsMade, shown}
+use Rattle.ring_runs.specs.Agreement.{Behaves, Reachable, Started as InitBy, nextsOf, sendsMade, shown}
 use Rattle.ring_runs.specs.Counts.{kind, ring}
 use Rattle.ring_runs.specs.EWD998.{Init, Next, Node, RecvMsg, SendMsg, Vars, terminationDetected}
 use Rattle.ring_runs.specs.Requests.{announce, send, take}
@@ -86,7 +86,7 @@ module _ (t : Table) (ok : SoundTable t) (u : ℕ) (r : State) (at : slotAt t u 
     pub next-is-answered : (s : Vars (r .n)) → Next someNode (shown r) s → NextAnswered s
     -- receipts in a row of one node, as many as one take may take, are answered by one accepted take
     pub receipts-are-take :
-        (i : Node (r .n)) (n : ℕ) (s : Vars (r .n)) → 0 < n → n ≤ takeLimit → InARow (RecvMsg someNode i) n (shown r) s
+        (i : Node (r .n)) (n : ℕ) (s : Vars (r .n)) → 0 < n → n ≤ 1000 → InARow (RecvMsg someNode i) n (shown r) s
         → AcceptsOn t u (take (i .nr) n) × (shownAfter t u r (take (i .nr) n) ≡ s)
     -- announce is terminationDetected
     pub announce-is-detected : r .closed ≡ false → AcceptsOn t u announce ↔ terminationDetected someNode (shown r)
@@ -117,10 +117,10 @@ pub record RunTo (t : Table) (u : ℕ) {N : ℕ} (s : Vars N) (m : ℕ) : Type 0
   pub there : varsOf N r ≡ s
 
 pub record RunsAgree : Type 0 where
-  -- the steps of u since its latest start, or since the first table, are a behaviour, each take of n stretched into n steps
+  -- the accepted steps of u since its latest start, or since the first table, are a behaviour, each take of n stretched into n steps of EWD998
   pub run-is-behaviour :
       (t : Table) → SoundTable t → (u : ℕ) (ls : List Ask) (r : State) → historyOf u t ls .first ≡ Started r → (h : 0 < r .n)
-      → (s : State) → slotAt (runOf table t ls) u ≡ Started s → InARow (Next h) (nextsIn (historyOf u t ls .taken)) (shown r) (varsOf (r .n) s)
+      → (s : State) → slotAt (runOf table t ls) u ≡ Started s → Behaves h r (historyOf u t ls .taken) s
   -- whatever the requests to any updates, accepted or refused: what stands at u, started in the run, is reachable
   pub run-is-reachable :
       (t : Table) → SoundTable t → (u : ℕ) (ls : List Ask) → startedOf u t ls ≡ true

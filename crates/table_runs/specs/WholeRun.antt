@@ -57,6 +57,7 @@ pub record Point (t : Table) (u : ℕ) (ls : List Ask) (r : State) : Type 0 wher
   pub activity : (b : ℕ) → activeAt s b ≡ activeIn r (historyOf u t ls .taken) b
   pub transit : (b : ℕ) → pendingAt s b ≡ transitIn r (historyOf u t ls .taken) b
   pub enough : (b : ℕ) → takesBy (historyOf u t ls .taken) b ≤ pendingAt r b + sendsTo (historyOf u t ls .taken) b
+  pub received : (b : ℕ) → receivedAt s b ≡ receivedAt r b + takesBy (historyOf u t ls .taken) b
   -- an announcement of u is accepted only if every node of u is passive and no message of u is in transit
   pub quiet : (x : Request) → kind x ≡ Announce → AcceptsOn (runOf table t ls) u x → QuietIn r (historyOf u t ls .taken)
   -- and no step of u after it, until u is started afresh
