@@ -1,3 +1,4 @@
 pub mod Form
 pub mod Read
 pub mod Exact
+pub mod Examples

@@ -18,7 +18,8 @@ use Rattle.ring_runs.specs.Requests.{announce, idle, numbers, pass, probe, send
 use Rattle.ring_runs.specs.View.{varsOf}
 use Rattle.ring_runs.specs.WholeRun.{Countdown}
 
--- ---- the start of document 01's second starred run, and that run with three requests put in that are refused
+-- ---- the start of document 01's second starred run, and that run with two messages in the place of one, taken at once, and three requests put
+-- in that are refused
 
 abbrev pub startFlags : List ℕ
 startFlags = 0 ∷ 1 ∷ 0 ∷ []
@@ -27,10 +28,10 @@ abbrev pub first : State
 first = startOf 3 startFlags .state
 
 abbrev pub requests : List Request
-requests = announce ∷ probe ∷ pass 2 ∷ send 1 1 ∷ send 1 2 ∷ take 2 1 ∷ take 2 1 ∷ idle 1 ∷ idle 2 ∷ []
+requests = announce ∷ probe ∷ pass 2 ∷ send 1 1 ∷ send 1 2 ∷ send 1 2 ∷ take 2 3 ∷ take 2 2 ∷ idle 1 ∷ idle 2 ∷ []
 
 abbrev pub answers : List ℕ
-answers = 8 ∷ 0 ∷ 0 ∷ 7 ∷ 0 ∷ 0 ∷ 8 ∷ 0 ∷ 0 ∷ []
+answers = 8 ∷ 0 ∷ 0 ∷ 7 ∷ 0 ∷ 0 ∷ 8 ∷ 0 ∷ 0 ∷ 0 ∷ []
 
 -- from there to the announcement
 abbrev pub moves : List Request
@@ -147,7 +148,7 @@ pub record HandedIn (r : State) (xs : List Request) (told : List ℕ) (ys : List
 pub record Agreed : Type 0 where
   pub some-node : 0 < 3
   pub init : Init some-node (varsOf 3 first)
-  pub reachable : Reachable some-node (varsOf 3 (runOf ring first requests)) 1
+  pub reachable : Reachable some-node (varsOf 3 (runOf ring first requests)) 2
   pub detected : terminationDetected some-node (varsOf 3 (runOf ring first (requests ++ moves)))
 
 pub record Instances : Type 0 where
