@@ -2,10 +2,14 @@
 use native.Mathlib.Omega.{arith}
 use Prim.Native.Nat.{_+_, _-_, _≤_, ℕ}
 use lib.Dec.{ltb}
+use lib.ListN.{drop}
+use mathlib.Core.Bool.{false}
 use mathlib.Core.Logic.{⊎-elim}
 use mathlib.Core.Path.{_≡_, sym, _∙_}
 use borrow.Author.Tests.{not-true, not-false, lt-ltb, le-ltb}
 use Rattle.decimal.proofs.Cases.{split}
+use Rattle.decimal.specs.Bytes.{bytes}
+use Rattle.decimal.specs.Word.{starts}
 use Rattle.forms.specs.Form.{lineBytes}
 use Rattle.forms.specs.Read.{endsLine}
 use borrow.Author.Needs.{needs}
@@ -27,7 +31,10 @@ fits at e h =
 
 returns : tie.Need-returns
 unfolding endsLine
-returns c = rw (sym (c .before .has .ensures) ∙ not-true _ (c .if1 .taken))
+returns c =
+    let a = c .before .before .before .before .args in
+    let none : starts (bytes "\n") (drop (a .e) (a .s .now)) ≡ false = sym (c .before .has .ensures) ∙ not-true _ (c .if1 .taken) in
+    rw none
 
 returns-2 : tie.Need-returns-2
 unfolding endsLine

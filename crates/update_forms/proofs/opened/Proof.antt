@@ -1,9 +1,11 @@
 -- `update_forms::opened` meets its contract. Assumes nothing.
 use native.Mathlib.Omega.{arith}
-use mathlib.Core.Path.{sym, _∙_}
+use Prim.Native.Nat.{_+_}
+use mathlib.Core.Path.{_≡_, sym, _∙_}
 use borrow.Author.Tests.{not-true, not-false}
 use Rattle.decimal.specs.Bytes.{bytes}
 use Rattle.decimal.proofs.Words.{word-in}
+use Rattle.forms.specs.Read.{spacedOf}
 use Rattle.update_forms.specs.Read.{openedOf}
 use borrow.Author.Needs.{needs}
 use Rattle.update_forms.proofs.opened.Statement.{statement}
@@ -32,7 +34,10 @@ space-after-requires c κs = search needs
 
 returns-2 : tie.Need-returns-2
 unfolding openedOf
-returns-2 c = rw (sym (c .before .before .before .has .ensures) ∙ not-false _ (c .before .before .if1 .left), ← c .before .spaced .ensures) (c .space-after .ensures)
+returns-2 c =
+    let a = c .before .before .before .before .before .before .args in
+    let number : c .before .spaced .result ≡ spacedOf (a .s .now) (a .at + 7) = c .before .spaced .ensures in
+    rw (sym (c .before .before .before .has .ensures) ∙ not-false _ (c .before .before .if1 .left), ← number) (c .space-after .ensures)
 
 pub opened-spec : {M : Type 1} → statement M
 opened-spec =

@@ -1,9 +1,12 @@
 -- `update_forms::ring_in` meets its contract. Assumes nothing.
 use native.Mathlib.Omega.{arith}
 use Prim.Native.Nat.{_+_}
-use mathlib.Core.Path.{sym, _∙_}
+use lib.ListN.{drop}
+use mathlib.Core.Bool.{false}
+use mathlib.Core.Path.{_≡_, sym, _∙_}
 use borrow.Author.Tests.{not-true, not-false}
 use Rattle.decimal.specs.Bytes.{bytes}
+use Rattle.decimal.specs.Word.{starts}
 use Rattle.decimal.proofs.Words.{word-in}
 use Rattle.forms.proofs.Reading.{ends-sound}
 use Rattle.update_forms.specs.Read.{startIn}
@@ -22,7 +25,10 @@ no-start-requires c κs = search needs
 
 returns : tie.Need-returns
 unfolding startIn
-returns c = rw (sym (c .before .before .has .ensures) ∙ not-true _ (c .before .if1 .taken)) (c .no-start .ensures)
+returns c =
+    let a = c .before .before .before .before .before .args in
+    let none : starts (bytes ")") (drop (a .f .end) (a .s .now)) ≡ false = sym (c .before .before .has .ensures) ∙ not-true _ (c .before .if1 .taken) in
+    rw none (c .no-start .ensures)
 
 add-ends-line : tie.Need-add-ends-line
 add-ends-line c =
