@@ -1,8 +1,10 @@
 -- `first_line::line_first` meets its contract. Assumes nothing.
 use native.Mathlib.Omega.{arith}
-use mathlib.Core.Path.{sym, _∙_}
+use mathlib.Core.Bool.{false}
+use mathlib.Core.Path.{_≡_, sym, _∙_}
 use borrow.Author.Tests.{not-true, not-false}
 use Rattle.forms.proofs.Reading.{ends-sound}
+use Rattle.forms.specs.Read.{endsLine}
 use Rattle.first_line.specs.Read.{lineFirst}
 use borrow.Author.Needs.{needs}
 use Rattle.first_line.proofs.line_first.Statement.{statement}
@@ -16,7 +18,10 @@ no-first-requires c κs = search needs
 
 returns : tie.Need-returns
 unfolding lineFirst
-returns c = rw (sym (c .before .before .ends-line .ensures) ∙ not-true _ (c .before .if1 .taken)) (c .no-first .ensures)
+returns c =
+    let a = c .before .before .before .before .args in
+    let none : endsLine (a .s .now) (a .at) (a .f .end) ≡ false = sym (c .before .before .ends-line .ensures) ∙ not-true _ (c .before .if1 .taken) in
+    rw none (c .no-first .ensures)
 
 add-until : tie.Need-add-until
 add-until c =
