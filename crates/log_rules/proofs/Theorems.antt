@@ -61,13 +61,29 @@ first-end (bare u n) e = refl
 first-end (lists u n active black) e = refl
 
 -- no start of a ring or a tree shares a line with a wrapped form
-not-wrapped : (f : Start) (w : Wrapped) → startForm f ≡ wrappedForm w → ⊥
-not-wrapped (Start.bare n) w p = let z : _≡_ {A = ℕ} 0 1 = cc in let y : ⊥ = omega arith in y
-not-wrapped (Start.lists n active black) w p = let z : _≡_ {A = ℕ} 0 1 = cc in let y : ⊥ = omega arith in y
-not-wrapped (Start.tree n root) w p = let z : _≡_ {A = ℕ} 0 1 = cc in let y : ⊥ = omega arith in y
+-- no start is wrapped
+abbrev isWrapped : Form → Bool
+isWrapped (update u f) = true
+isWrapped (bareRing n) = false
+isWrapped (ringWith n active black) = false
+isWrapped (treeOf n root) = false
+isWrapped (send i j) = false
+isWrapped (takeOne i) = false
+isWrapped (takeWith i k) = false
+isWrapped (idle i) = false
+isWrapped probe = false
+isWrapped (pass i) = false
+isWrapped (ack i) = false
+isWrapped (leave i) = false
+isWrapped announce = false
+
+start-bare : (f : Start) → isWrapped (startForm f) ≡ false
+start-bare (Start.bare n) = refl
+start-bare (Start.lists n active black) = refl
+start-bare (Start.tree n root) = refl
 
 pub start-or-wrapped : (l : List ℕ) (f : Start) (w : Wrapped) → Says l (startForm f) → Says l (wrappedForm w) → ⊥
-start-or-wrapped l f w s t = not-wrapped f w (same-form l (startForm f) (wrappedForm w) s t)
+start-or-wrapped l f w s t = false-true (sym (start-bare f) ∙ ap isWrapped (same-form l (startForm f) (wrappedForm w) s t))
 
 first-wrapped : (l : List ℕ) (w : Wrapped) → Says (line l) (wrappedForm w) → firstAt l 0 ≡ other
 first-wrapped l w t = first-other l 0 .1 (λ f s. start-or-wrapped (line l) f w s t)
@@ -102,21 +118,6 @@ none-added t ms k u i n =
     ap (λ (x : List ℕ). record { stage = onTable (a .table) x; text = answerText k (a .verdict) }) (ap (set ms u) e ∙ set-getD ms u 0)
 
 -- no step of a ring or of a tree is wrapped
-abbrev isWrapped : Form → Bool
-isWrapped (update u f) = true
-isWrapped (bareRing n) = false
-isWrapped (ringWith n active black) = false
-isWrapped (treeOf n root) = false
-isWrapped (send i j) = false
-isWrapped (takeOne i) = false
-isWrapped (takeWith i k) = false
-isWrapped (idle i) = false
-isWrapped probe = false
-isWrapped (pass i) = false
-isWrapped (ack i) = false
-isWrapped (leave i) = false
-isWrapped announce = false
-
 ring-bare : (f : RingStep) → isWrapped (ringForm f) ≡ false
 ring-bare (ringStep.Send i j) = refl
 ring-bare (ringStep.TakeOne i) = refl
