@@ -1,0 +1,77 @@
+// The walk of the soundness check: down the ring from node n - 1 to node 0, as the token goes, and all that the check asks of the nodes on the way.
+use refusal::COLOR_BYTES;
+use refusal::RING_NODES;
+ghost use mathlib.Core.Path.{_≡_};
+ghost use Prim.Native.Nat.{_≤_, _<_, _^_};
+ghost use Rattle.ring_walk.specs.Walked.{Walked};
+
+// The nodes above the token: what they sent and received, and whether they are passive.
+pub struct Above {
+    pub sent: u64,
+    pub received: u64,
+    pub passive: bool,
+}
+
+// What the walk has seen: the totals of all nodes, those above the token, and whether the others are white.
+pub struct Seen {
+    pub sent: u64,
+    pub received: u64,
+    pub pending: u64,
+    pub above: Above,
+    pub white: bool,
+}
+
+// A place of a column, as a wider number.
+pub fn wide(x: u32) -> u64
+    ensures { λ r. ⌜ (r ≡ x) × (r < 2 ^ 32) ⌝ }
+{
+    x as u64
+}
+
+// The walk, past the token at pos, which goes the same way.
+pub fn walk<'a>(
+    n: usize,
+    pos: usize,
+    active: &'a [bool; RING_NODES],
+    color: &'a [u8; COLOR_BYTES],
+    sent: &'a [u32; RING_NODES],
+    received: &'a [u32; RING_NODES],
+    pending: &'a [u32; RING_NODES],
+) -> Seen
+    requires { ⌜ (n ≤ 96) × (pos < n) ⌝ }
+    ensures { λ w. ⌜ Walked n pos (now (active .entry)) (now (color .entry)) (now (sent .entry)) (now (received .entry)) (now (pending .entry)) w ⌝ }
+{
+    let mut s: u64 = 0;
+    let mut t: u64 = 0;
+    let mut p: u64 = 0;
+    let mut s_above: u64 = 0;
+    let mut t_above: u64 = 0;
+    let mut passive = true;
+    let mut white = true;
+    let mut i = n;
+    while 0 < i {
+        i -= 1;
+        s += wide(sent[i]);
+        t += wide(received[i]);
+        p += wide(pending[i]);
+        if pos < i {
+            s_above = s;
+            t_above = t;
+            passive = passive & !active[i];
+        } else {
+            white = white & !color::is_black(color, i);
+        }
+    }
+    let above = Above {
+        sent: s_above,
+        received: t_above,
+        passive,
+    };
+    Seen {
+        sent: s,
+        received: t,
+        pending: p,
+        above,
+        white,
+    }
+}
