@@ -134,97 +134,95 @@ white-is color n pos h = same-test _ _ forth back
         at i (yes above) = white-unasked color pos i above
         at i (no to) = right-true (ltb pos i) (all-at (suc pos) _ e i (omega arith))
 
--- ---- all of it
+-- ---- all of it: the nodes i to n - 1 are behind the walk
+
+-- of those above the token
+pub record Higher (n pos : ℕ) (active : List Bool) (sent received : List ℕ) (s t s-above t-above : ℕ) (ok : Bool) (i : ℕ) : Type 0 where
+  pub sends : Above sent n pos i s s-above
+  pub receipts : Above received n pos i t t-above
+  pub passive : Asked (passive-test active pos) n i ok
+
+pub record Going
+    (n pos : ℕ) (active : List Bool) (color sent received pending : List ℕ) (s t p s-above t-above : ℕ) (ok white : Bool) (i : ℕ) : Type 0 where
+  pub left : i ≤ n
+  pub sends : Behind sent n i s
+  pub receipts : Behind received n i t
+  pub transit : Behind pending n i p
+  pub higher : Higher n pos active sent received s t s-above t-above ok i
+  pub lower : Asked (white-test color pos) n i white
+
+module _ (n pos : ℕ) (active : List Bool) (sent received : List ℕ) where
+  pub higher-node :
+      {i s t s-above t-above : ℕ} {next : Bool} (ok : Bool) → Behind sent n (i - 1) s → Behind received n (i - 1) t → Asked (passive-test active pos) n i ok → 0 < i
+      → pos < i - 1 → s-above ≡ s → t-above ≡ t → next ≡ (ok && not (getD active (i - 1) false))
+      → Higher n pos active sent received s t s-above t-above next (i - 1)
+  higher-node {i} ok b₁ b₂ e some h e₁ e₂ e₃ =
+      rw (e₁, e₂, e₃)
+      (record {
+        sends = above-here sent n pos b₁ h;
+        receipts = above-here received n pos b₂ h;
+        passive = asked-node (passive-test active pos) n i ok e some _ (passive-asked active pos (i - 1) h);
+      })
+
+  pub higher-kept :
+      {i s t s-above t-above a b : ℕ} {ok next : Bool} (x y : ℕ) → Higher n pos active sent received s t s-above t-above ok i → 0 < i
+      → i - 1 ≤ pos → a ≡ s-above → b ≡ t-above → next ≡ ok
+      → Higher n pos active sent received (s + x) (t + y) a b next (i - 1)
+  higher-kept {i} {ok} x y g some h e₁ e₂ e₃ =
+      rw (e₁, e₂, e₃)
+      (record {
+        sends = above-kept sent n pos x (g .sends) some h;
+        receipts = above-kept received n pos y (g .receipts) some h;
+        passive = asked-kept (passive-test active pos) n i ok (g .passive) some (passive-unasked active pos (i - 1) h);
+      })
+
+module _ (color : List ℕ) (n pos i : ℕ) (white : Bool) (e : Asked (white-test color pos) n i white) (some : 0 < i) where
+  pub lower-node : (black : Bool) → black ≡ isBlack color (i - 1) → i - 1 ≤ pos → Asked (white-test color pos) n (i - 1) (white && not black)
+  lower-node black f h = asked-node (white-test color pos) n i white e some _ (white-asked color pos (i - 1) h ∙ ap not (sym f))
+
+  pub lower-kept : pos < i - 1 → Asked (white-test color pos) n (i - 1) white
+  lower-kept h = asked-kept (white-test color pos) n i white e some (white-unasked color pos (i - 1) h)
 
 module _ (n pos : ℕ) (active : List Bool) (color sent received pending : List ℕ) where
-  -- the nodes i to n - 1 are behind the walk
-  pub record Going (s t p s-above t-above : ℕ) (ok white : Bool) (i : ℕ) : Type 0 where
-    pub left : i ≤ n
-    pub sends : Behind sent n i s
-    pub receipts : Behind received n i t
-    pub transit : Behind pending n i p
-    pub sends-above : Above sent n pos i s s-above
-    pub receipts-above : Above received n pos i t t-above
-    pub passive : Asked (passive-test active pos) n i ok
-    pub no-black : Asked (white-test color pos) n i white
-
-  pub going-none : Going 0 0 0 0 0 true true n
-  going-none =
-      record {
+  -- no node is behind the walk
+  pub going-none : {i : ℕ} → i ≡ n → Going n pos active color sent received pending 0 0 0 0 0 true true i
+  going-none e =
+      rw e
+      (record {
         left = omega arith;
         sends = behind-none sent n;
         receipts = behind-none received n;
         transit = behind-none pending n;
-        sends-above = above-none sent n pos;
-        receipts-above = above-none received n pos;
-        passive = refl;
-        no-black = refl;
-      }
+        higher = record { sends = above-none sent n pos; receipts = above-none received n pos; passive = refl };
+        lower = refl;
+      })
 
-  -- the next node: above the token, or the token's and below
-  module _
-      {s t p s-above t-above i : ℕ} {ok white : Bool} (so-far : Going s t p s-above t-above ok white i) (some : 0 < i)
-      (x y z : ℕ) (ex : (x ≡ getD sent (i - 1) 0) × (x < 2 ^ 32)) (ey : (y ≡ getD received (i - 1) 0) × (y < 2 ^ 32))
-      (ez : (z ≡ getD pending (i - 1) 0) × (z < 2 ^ 32)) where
-    more-sent : Behind sent n (i - 1) (s + x)
-    more-sent = behind-node sent n (so-far .sends) some (ex .0) (ex .1)
-
-    more-received : Behind received n (i - 1) (t + y)
-    more-received = behind-node received n (so-far .receipts) some (ey .0) (ey .1)
-
-    more-pending : Behind pending n (i - 1) (p + z)
-    more-pending = behind-node pending n (so-far .transit) some (ez .0) (ez .1)
-
-    pub going-above : pos < i - 1 → Going (s + x) (t + y) (p + z) (s + x) (t + y) (ok && not (getD active (i - 1) false)) white (i - 1)
-    going-above h =
-        record {
-          left = omega (arith, so-far .left);
-          sends = more-sent;
-          receipts = more-received;
-          transit = more-pending;
-          sends-above = above-here sent n pos more-sent h;
-          receipts-above = above-here received n pos more-received h;
-          passive = asked-node (passive-test active pos) n i ok (so-far .passive) some _ (passive-asked active pos (i - 1) h);
-          no-black = asked-kept (white-test color pos) n i white (so-far .no-black) some (white-unasked color pos (i - 1) h);
-        }
-
-    pub going-to : (black : Bool) → black ≡ isBlack color (i - 1) → i - 1 ≤ pos → Going (s + x) (t + y) (p + z) s-above t-above ok (white && not black) (i - 1)
-    going-to black e h =
-        record {
-          left = omega (arith, so-far .left);
-          sends = more-sent;
-          receipts = more-received;
-          transit = more-pending;
-          sends-above = above-kept sent n pos x (so-far .sends-above) some h;
-          receipts-above = above-kept received n pos y (so-far .receipts-above) some h;
-          passive = asked-kept (passive-test active pos) n i ok (so-far .passive) some (passive-unasked active pos (i - 1) h);
-          no-black = asked-node (white-test color pos) n i white (so-far .no-black) some _ (white-asked color pos (i - 1) h ∙ ap not (sym e));
-        }
-
-  -- at node 0 nothing is before it
+  -- none is before it
   pub going-all :
       (w : Seen) {i : ℕ} → pos < n → n ≤ 96
-      → Going (w .sent) (w .received) (w .pending) (w .above .sent) (w .above .received) (w .above .passive) (w .white) i → i ≡ 0
-      → Walked n pos active color sent received pending w
+      → Going n pos active color sent received pending (w .sent) (w .received) (w .pending) (w .above .sent) (w .above .received) (w .above .passive) (w .white) i
+      → i ≡ 0 → Walked n pos active color sent received pending w
   going-all w holder most so-far end =
       record {
         sends = behind-all sent n (all .sends);
         receipts = behind-all received n (all .receipts);
         transit = behind-all pending n (all .transit);
-        sends-above = above-all sent n pos (all .sends-above);
-        receipts-above = above-all received n pos (all .receipts-above);
-        passive = asked-all _ n _ (all .passive) ∙ passive-is active n pos;
-        white = asked-all _ n _ (all .no-black) ∙ white-is color n pos holder;
+        sends-above = above-all sent n pos (all .higher .sends);
+        receipts-above = above-all received n pos (all .higher .receipts);
+        passive = asked-all _ n _ (all .higher .passive) ∙ passive-is active n pos;
+        white = asked-all _ n _ (all .lower) ∙ white-is color n pos holder;
         bounded =
             record {
               sent = omega (arith, all .sends .few);
               received = omega (arith, all .receipts .few);
               pending = omega (arith, all .transit .few);
-              sent-above = all .sends-above .part;
-              received-above = all .receipts-above .part;
+              sent-above = all .higher .sends .part;
+              received-above = all .higher .receipts .part;
             };
       }
     where
-      all : Going (w .sent) (w .received) (w .pending) (w .above .sent) (w .above .received) (w .above .passive) (w .white) 0
+      all : Going n pos active color sent received pending (w .sent) (w .received) (w .pending) (w .above .sent) (w .above .received) (w .above .passive) (w .white) 0
       all =
-          subst (Going (w .sent) (w .received) (w .pending) (w .above .sent) (w .above .received) (w .above .passive) (w .white)) end so-far
+          subst
+          (Going n pos active color sent received pending (w .sent) (w .received) (w .pending) (w .above .sent) (w .above .received) (w .above .passive) (w .white))
+          end so-far

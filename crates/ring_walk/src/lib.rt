@@ -58,7 +58,8 @@ pub fn walk<'a>(
             s_above = s;
             t_above = t;
             passive = passive & !active[i];
-        } else {
+        }
+        if i <= pos {
             white = white & !color::is_black(color, i);
         }
     }
