@@ -13,7 +13,8 @@ use native.Mathlib.Numerals.{add-one}
 use native.Mathlib.Omega.{arith}
 use Rattle.laws.proofs.Places.{all-at, all-from}
 use Rattle.laws.proofs.Tests.{both, both-true, left-true, not-eq, right-true, same-test}
-use Rattle.color.specs.Colors.{bit, isBlack, whiteBetween}
+use Rattle.color.specs.Between.{whiteBetween}
+use Rattle.color.specs.Colors.{bit, isBlack}
 
 pub node-bit : (c : List ℕ) (k j : ℕ) → j < 8 → isBlack c (8 * k + j) ≡ eqb (bit (getD c k 0) j) 1
 unfolding isBlack
