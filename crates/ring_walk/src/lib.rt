@@ -1,9 +1,12 @@
-// The walk of the soundness check: down the ring from node n - 1 to node 0, as the token goes, and all that the check asks of the nodes on the way.
+// The walk of the soundness check, down the ring from node n - 1 to node 0, as the token goes, and the tests of what it has seen.
 use refusal::COLOR_BYTES;
 use refusal::RING_NODES;
+use refusal::SEND_LIMIT;
 ghost use mathlib.Core.Path.{_≡_};
 ghost use Prim.Native.Nat.{_≤_, _<_, _^_};
-ghost use Rattle.ring_walk.specs.Walked.{Walked};
+ghost use lib.Signed.{mag};
+ghost use Rattle.ring_walk.specs.Walked.{Bounded, Walked};
+ghost use Rattle.ring_walk.specs.Tests.{flowSeen, safraSeen};
 
 // The nodes above the token: what they sent and received, and whether they are passive.
 pub struct Above {
@@ -75,4 +78,24 @@ pub fn walk<'a>(
         above,
         white,
     }
+}
+
+// Are there no more sends than the limit, and as many as messages received and pending?
+pub fn flows(w: Seen) -> bool
+    requires { ⌜ Bounded w ⌝ }
+    ensures { λ r. ⌜ r ≡ flowSeen w ⌝ }
+{
+    (w.sent <= SEND_LIMIT as u64) & (w.sent == w.received + w.pending)
+}
+
+// Does one of Safra's four hold? q and black are the token's.
+pub fn safra(q: i64, black: bool, w: Seen) -> bool
+    requires { ⌜ Bounded w × (mag q < 2 ^ 62) ⌝ }
+    ensures { λ r. ⌜ r ≡ safraSeen q black w ⌝ }
+{
+    let above = signed::is_counter(q, w.above.sent, w.above.received);
+    let s = w.sent - w.above.sent;
+    let t = w.received - w.above.received;
+    let positive = signed::is_positive_with(q, s, t);
+    (w.above.passive & above) | (positive | (!w.white | black))
 }

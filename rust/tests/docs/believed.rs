@@ -9,7 +9,7 @@ use std::collections::BTreeSet;
 
 /// Files of `specs/` that need not be believed: contracts between functions of the code, which the contracts of the public operations do not
 /// mention.
-const INNER: [(&str, &str); 11] = [
+const INNER: [(&str, &str); 13] = [
     ("log_end", "Ends"),
     ("log_lines", "Lines"),
     ("log_ring", "Run"),
@@ -21,10 +21,12 @@ const INNER: [(&str, &str); 11] = [
     ("ring_check", "Told"),
     ("tree_check", "Told"),
     ("ring_driver", "Ran"),
+    ("ring_walk", "Tests"),
+    ("ring_walk", "Walked"),
 ];
 
 /// Crates whose code need not be believed: it is called by the public operations, and proved; three are test programs.
-const INNER_CODE: [&str; 23] = [
+const INNER_CODE: [&str; 24] = [
     "log_end",
     "log_lines",
     "log_ring",
@@ -39,6 +41,7 @@ const INNER_CODE: [&str; 23] = [
     "ring_start",
     "ring_steps",
     "ring_token",
+    "ring_walk",
     "table_calls",
     "table_columns",
     "table_start",

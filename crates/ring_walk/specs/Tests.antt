@@ -1,19 +1,18 @@
 -- Parts of the soundness test, of what the walk has seen.
 use Prim.Native.Nat.{_+_, _-_}
 use lib.Dec.{eqb, leb}
-use lib.IntN.{_+ℤ_}
+use lib.IntN.{_+ℤ_, ℤ}
 use mathlib.Core.Bool.{Bool, _&&_, _||_, not}
 use Rattle.refusal.specs.Table.{sendLimit}
-use Rattle.ring_walk.specs.declared.Seen.{Seen}
 use Rattle.signed.specs.Integers.{_⊖_, isPositive, isSame}
-use Rattle.ring_check.specs.declared.Rest.{Rest}
+use Rattle.ring_walk.specs.declared.Seen.{Seen}
 
 -- `flowTest`
 abbrev pub flowSeen : Seen → Bool
 flowSeen w = leb (w .sent) sendLimit && eqb (w .sent) (w .received + w .pending)
 
 -- `safraTest`
-abbrev pub safraSeen : Rest → Seen → Bool
-safraSeen r w =
-    (w .above .passive && isSame (r .q) (w .above .sent ⊖ w .above .received))
-    || (isPositive (r .q +ℤ ((w .sent - w .above .sent) ⊖ (w .received - w .above .received))) || (not (w .white) || r .black))
+abbrev pub safraSeen : ℤ → Bool → Seen → Bool
+safraSeen q black w =
+    (w .above .passive && isSame q (w .above .sent ⊖ w .above .received))
+    || (isPositive (q +ℤ ((w .sent - w .above .sent) ⊖ (w .received - w .above .received))) || (not (w .white) || black))
