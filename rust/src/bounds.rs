@@ -231,6 +231,23 @@ pub mod tables {
     ];
 }
 
+/// Of the calls on rings that are made to be sound, or not to be by little.
+pub mod soundness {
+    use super::ring::MAX_NODES;
+
+    /// Numbers of nodes, each with the token at every node.
+    pub const SIZES: [usize; 4] = [1, 2, MAX_NODES - 1, MAX_NODES];
+    /// On each of them: sound rings of each sort, and near misses of each kind that there is.
+    pub const SOUND: usize = 100;
+    pub const NEAR_MISSES: usize = 100;
+    /// On each of them: each field broken alone, and each two together, not sound.
+    pub const BROKEN: usize = 300;
+    /// Steps refused with 3.
+    pub const REFUSED: usize = 100_000;
+    /// Rings told as sound, and as not sound, in the place of each update of a table.
+    pub const OF_EACH: usize = 10_000;
+}
+
 /// The numbers that each call answers: each has to be met, and no other.
 pub mod answers {
     pub const RING_START: [usize; 3] = [0, 1, 2];

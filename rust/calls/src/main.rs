@@ -1,20 +1,24 @@
 //! Compares the proved functions, called through a static library, with the second implementation: starts; the steps of whole runs, which
-//! are guided by their states; wild states; the ring's driver; every value of each byte that stands for a truth; the tree's text, written,
-//! read back and damaged; tables of eight updates, through the header's functions; and walks the states of EWD998 for N = 3 with the proved step,
-//! against document 001's table. Takes are of every number of messages, by nodes to which none to more than a take may be of are on their way. What
-//! is lent to be written holds noise before each call, and a refusal must leave every byte of it; what is lent to be read is compared after each
-//! call too.
+//! are guided by their states; wild states; rings that are made to be sound, or not to be by little; the ring's driver; every value of each byte
+//! that stands for a truth; the tree's text, written, read back and damaged; tables of eight updates, through the header's functions; and walks the
+//! states of EWD998 for N = 3 with the proved step, against document 001's table. Takes are of every number of messages, by nodes to which none to
+//! more than a take may be of are on their way. What is lent to be written holds noise before each call, and a refusal must leave every byte of it;
+//! what is lent to be read is compared after each call too.
 //! It prints what was met, each figure with its bound, and fails if one is not within it.
 
 mod answers;
 mod flags;
 mod lent;
 mod lent_table;
+mod near_counts;
+mod near_misses;
 mod numbers;
 mod proved;
 mod requests;
 mod rings;
 mod same;
+mod sound_rings;
+mod soundness;
 mod tables;
 mod texts;
 mod trees;
@@ -32,6 +36,7 @@ fn main() {
         .map_or(1, |s| s.parse().expect("a seed"));
     let mut report = Report::default();
     rings::compare(seed, &mut report);
+    soundness::compare(seed, &mut report);
     trees::compare(seed, &mut report);
     tables::compare(seed, &mut report);
     flags::compare(seed, &mut report);

@@ -4,6 +4,7 @@ use crate::answers::{Answers, BySize};
 use crate::lent::LentRing;
 use crate::requests::{no_counts, request, takes, waiting, Course};
 use crate::same::{other, same_soundness, same_start, same_step};
+use crate::sound_rings::counters;
 use crate::{fail, proved};
 use second::bounds::answers::{IS_SOUND, OF_SOUND, RING_DRIVE, RING_START};
 use second::bounds::calls::{ANNOUNCED, ANSWER, BROKEN, ON_RINGS, STARTS, STEPS, TAKES};
@@ -248,10 +249,15 @@ fn limit(random: &mut Rng) -> usize {
     random.pick(&[MOVE_LIMIT + 1, cut, cut + 1, cut + 6, usize::MAX])
 }
 
-/// The ring with one field set to something else.
+/// The ring with one field set to something else, of a column at any place.
 pub fn broken(ring: &Ring, field: usize, random: &mut Rng) -> Ring {
-    let mut wild = ring.clone();
     let at = random.below(MAX_NODES);
+    broken_at(ring, field, at, random)
+}
+
+/// The ring with one field set to something else, of a column at this place.
+pub fn broken_at(ring: &Ring, field: usize, at: usize, random: &mut Rng) -> Ring {
+    let mut wild = ring.clone();
     let count = random.pick(&[0, 1, 2, SEND_LIMIT, SEND_LIMIT + 1, u32::MAX]);
     let most = (MAX_NODES as i64 - 1) * i64::from(SEND_LIMIT);
     match FIELDS[field] {
@@ -276,7 +282,6 @@ fn balanced(ring: &Ring, random: &mut Rng) -> Ring {
     let mut wild = ring.clone();
     let (i, j) = (random.below(MAX_NODES), random.below(MAX_NODES));
     let pos = random.below(ring.n);
-    let counters = |from: usize, to: usize| -> i64 { (from..to).map(|i| ring.counter(i)).sum() };
     match random.below(3) {
         0 => {
             wild.sent[i] += 1;
@@ -292,7 +297,8 @@ fn balanced(ring: &Ring, random: &mut Rng) -> Ring {
             wild.color = random.pick(&[[0; COLOR_BYTES], ring.color]);
             wild.token = Token {
                 pos,
-                q: random.pick(&[counters(pos + 1, ring.n), -counters(0, pos + 1)]) + around,
+                q: random.pick(&[counters(ring, pos + 1..ring.n), -counters(ring, 0..pos + 1)])
+                    + around,
                 black: false,
             };
         }

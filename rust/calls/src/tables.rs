@@ -441,7 +441,7 @@ fn same_step(seed: u64, lent: &LentTable, update: usize, request: Request) -> (u
     ours
 }
 
-fn same_soundness(seed: u64, lent: &LentTable) -> u8 {
+pub fn same_soundness(seed: u64, lent: &LentTable) -> u8 {
     let expected = lent.table().is_some_and(|table| table.is_sound());
     let mut theirs = lent.clone();
     let told = theirs.is_sound();

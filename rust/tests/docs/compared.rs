@@ -3,9 +3,11 @@
 
 use crate::repository::{in_thousands, joined, lost_phrases, places_of, read, section, tables};
 use second::bounds::{
-    answers, calls, logs, tables, texts, updates, Asked, TakesAsked, LARGE_RINGS, LARGE_TREES,
+    answers, calls, logs, soundness, tables, texts, updates, Asked, TakesAsked, LARGE_RINGS,
+    LARGE_TREES,
 };
 use second::log::{LINE_BYTES, LINE_LIMIT};
+use second::refusal::Refusal;
 use second::sizes::range_name;
 use second::walk::FULL;
 use second::{ring, tree};
@@ -192,6 +194,30 @@ fn of_refused_updates() -> Vec<String> {
     ]
 }
 
+fn of_soundness() -> Vec<String> {
+    let sizes = enumerated(&soundness::SIZES, "and");
+    let refused = "{} steps of these rings refused with {}";
+    let unsound = Refusal::Unsound.number() as usize;
+    vec![
+        format!("soundness of rings of {sizes} nodes"),
+        format!("or the last or cut to {} bits", u32::BITS),
+        filled("sound rings of each sort {} times", &[soundness::SOUND]),
+        filled(
+            "near misses of each kind {} times",
+            &[soundness::NEAR_MISSES],
+        ),
+        filled(
+            "each field broken alone and every two together {} times not sound",
+            &[soundness::BROKEN],
+        ),
+        filled(refused, &[soundness::REFUSED, unsound]),
+        filled(
+            "as each update {} rings sound and as many not",
+            &[soundness::OF_EACH],
+        ),
+    ]
+}
+
 fn of_tables() -> Vec<String> {
     let refusals = enumerated(&[&[3], &answers::OF_TABLE_STEP[..]].concat(), "and");
     let starts = enumerated(&answers::TABLE_START, "and");
@@ -249,6 +275,7 @@ fn phrases() -> Vec<String> {
         of_updates(),
         of_refused_updates(),
         of_calls(),
+        of_soundness(),
         of_tables(),
         of_texts(),
         of_walk(),
@@ -405,6 +432,8 @@ fn another_number_in_the_section_is_found() {
         ("10,000 times", "20,000 times"),
         ("500 logs announced", "600 logs announced"),
         ("600,000 steps", "700,000 steps"),
+        ("95 and 96 nodes", "94 and 96 nodes"),
+        ("of each kind 100 times", "of each kind 110 times"),
         ("20,000 written", "30,000 written"),
         ("1,384,582", "1,384,583"),
         ("10.1 million", "10.2 million"),
