@@ -1,7 +1,11 @@
-//! Links the proved functions, target/staticlib/libmuzserlik.a of the repository, and the header's functions of a table.
+//! Links the proved functions, libmuzserlik.a in the folder that MUZSERLIK_ARCHIVE names, else in target/staticlib of the repository, and the
+//! header's functions of a table.
 
 use std::path::{Path, PathBuf};
 use std::process::Command;
+
+/// The variable that names the folder of another archive.
+const ARCHIVE: &str = "MUZSERLIK_ARCHIVE";
 
 fn variable(name: &str) -> PathBuf {
     PathBuf::from(std::env::var(name).expect("set by cargo"))
@@ -34,7 +38,8 @@ fn compile(header: &Path, out: &Path) {
 
 fn main() {
     let here = variable("CARGO_MANIFEST_DIR");
-    let (library, header) = (here.join("../../target/staticlib"), here.join("../../c"));
+    let library = std::env::var(ARCHIVE).map_or(here.join("../../target/staticlib"), PathBuf::from);
+    let header = here.join("../../c");
     let out = variable("OUT_DIR");
     compile(&header, &out);
     println!("cargo:rustc-link-search=native={}", out.display());
@@ -46,6 +51,7 @@ fn main() {
         header.join("muzserlik.h"),
         here.join("table.c"),
     ];
+    println!("cargo:rerun-if-env-changed={ARCHIVE}");
     for file in files {
         println!("cargo:rerun-if-changed={}", file.display());
     }

@@ -8,12 +8,10 @@
 
 mod answers;
 mod flags;
-mod lent;
 mod lent_table;
 mod near_counts;
 mod near_misses;
 mod numbers;
-mod proved;
 mod requests;
 mod rings;
 mod same;
@@ -23,7 +21,8 @@ mod tables;
 mod texts;
 mod trees;
 
-use lent::LentRing;
+use calls::lent::LentRing;
+use calls::{lent, proved};
 use second::report::Report;
 use second::request::Request;
 use second::ring::Ring;
