@@ -12,8 +12,8 @@ use native.Mathlib.Nat.{div-one, zero-div}
 use native.Mathlib.Numerals.{add-one}
 use native.Mathlib.Omega.{arith}
 use Rattle.laws.proofs.Places.{all-at, all-from}
-use Rattle.laws.specs.Places.{allTo}
 use Rattle.laws.proofs.Tests.{both, both-true, left-true, not-eq, right-true, same-test}
+use Rattle.color.specs.Between.{whiteBetween}
 use Rattle.color.specs.Colors.{bit, isBlack}
 
 pub node-bit : (c : List ℕ) (k j : ℕ) → j < 8 → isBlack c (8 * k + j) ≡ eqb (bit (getD c k 0) j) 1
@@ -35,10 +35,6 @@ no-bits (suc m) b h z =
 bits-none : (b s j : ℕ) → b / 2 ^ s ≡ 0 → bit b (s + j) ≡ 0
 bits-none b s j e =
     ap (λ (x : ℕ). x % 2) (sym (shr-shr b s j) ∙ ap (λ (x : ℕ). x / 2 ^ j) e ∙ zero-div (2 ^ j))
-
--- the nodes n to m - 1 are white
-abbrev pub whiteBetween : List ℕ → ℕ → ℕ → Bool
-whiteBetween c n m = allTo m (λ i. ltb i n || not (isBlack c i))
 
 pub none-between : (c : List ℕ) (n : ℕ) → whiteBetween c n n ≡ true
 none-between c n = all-from n _ (λ i h. left-true _ (lt-ltb i n h))

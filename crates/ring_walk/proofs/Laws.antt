@@ -33,7 +33,7 @@ pub record Behind (l : List ℕ) (n i s : ℕ) : Type 0 where
   pub few : s + i * 2 ^ 32 ≤ n * 2 ^ 32
 
 -- a is the part of it above pos
-pub record Above (l : List ℕ) (n pos i s a : ℕ) : Type 0 where
+pub record PartAbove (l : List ℕ) (n pos i s a : ℕ) : Type 0 where
   pub all : a + (total l i - total l (suc pos)) ≡ total l n - total l (suc pos)
   pub part : a ≤ s
 
@@ -48,21 +48,21 @@ module _ (l : List ℕ) (n : ℕ) where
   behind-all b = omega (arith, b .all, sum-none (λ k. getD l k 0))
 
   module _ (pos : ℕ) where
-    pub above-none : Above l n pos n 0 0
+    pub above-none : PartAbove l n pos n 0 0
     above-none = record { all = omega arith; part = omega arith }
 
     -- up to a node above pos it is all of it; a node up to pos adds nothing to it
-    pub above-here : {i s : ℕ} → Behind l n i s → pos < i → Above l n pos i s s
+    pub above-here : {i s : ℕ} → Behind l n i s → pos < i → PartAbove l n pos i s s
     above-here {i} b h = record { all = omega (arith, b .all, total-mono l (suc pos) i (omega arith)); part = omega arith }
 
-    pub above-kept : {i s a : ℕ} (x : ℕ) → Above l n pos i s a → 0 < i → i - 1 ≤ pos → Above l n pos (i - 1) (s + x) a
+    pub above-kept : {i s a : ℕ} (x : ℕ) → PartAbove l n pos i s a → 0 < i → i - 1 ≤ pos → PartAbove l n pos (i - 1) (s + x) a
     above-kept {i} x b h to =
         record {
           all = omega (arith, b .all, total-mono l i (suc pos) (omega arith), total-node l i h);
           part = omega (arith, b .part);
         }
 
-    pub above-all : {s a : ℕ} → Above l n pos 0 s a → a ≡ total l n - total l (suc pos)
+    pub above-all : {s a : ℕ} → PartAbove l n pos 0 s a → a ≡ total l n - total l (suc pos)
     above-all b = omega (arith, b .all, sum-none (λ k. getD l k 0))
 
 -- ---- a test of the nodes
@@ -138,8 +138,8 @@ white-is color n pos h = same-test _ _ forth back
 
 -- of those above the token
 pub record Higher (n pos : ℕ) (active : List Bool) (sent received : List ℕ) (s t s-above t-above : ℕ) (ok : Bool) (i : ℕ) : Type 0 where
-  pub sends : Above sent n pos i s s-above
-  pub receipts : Above received n pos i t t-above
+  pub sends : PartAbove sent n pos i s s-above
+  pub receipts : PartAbove received n pos i t t-above
   pub passive : Asked (passive-test active pos) n i ok
 
 pub record Going
@@ -184,10 +184,11 @@ module _ (color : List ℕ) (n pos i : ℕ) (white : Bool) (e : Asked (white-tes
   lower-kept h = asked-kept (white-test color pos) n i white e some (white-unasked color pos (i - 1) h)
 
 module _ (n pos : ℕ) (active : List Bool) (color sent received pending : List ℕ) where
-  -- no node is behind the walk
-  pub going-none : {i : ℕ} → i ≡ n → Going n pos active color sent received pending 0 0 0 0 0 true true i
-  going-none e =
-      rw e
+  -- no node is behind the walk, and nothing but nodes before it
+  pub going-none : {i : ℕ} → n ≤ i → i ≤ n → Going n pos active color sent received pending 0 0 0 0 0 true true i
+  going-none {i} none-missed nodes-alone =
+      let all : i ≡ n = omega arith in
+      rw all
       (record {
         left = omega arith;
         sends = behind-none sent n;
@@ -213,11 +214,11 @@ module _ (n pos : ℕ) (active : List Bool) (color sent received pending : List 
         white = asked-all _ n _ (all .lower) ∙ white-is color n pos holder;
         bounded =
             record {
-              sent = omega (arith, all .sends .few);
-              received = omega (arith, all .receipts .few);
-              pending = omega (arith, all .transit .few);
-              sent-above = all .higher .sends .part;
-              received-above = all .higher .receipts .part;
+              sends = omega (arith, all .sends .few);
+              receipts = omega (arith, all .receipts .few);
+              transit = omega (arith, all .transit .few);
+              sends-above = all .higher .sends .part;
+              receipts-above = all .higher .receipts .part;
             };
       }
     where

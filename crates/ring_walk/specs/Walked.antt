@@ -9,11 +9,11 @@ use Rattle.ring_walk.specs.declared.Seen.{Seen}
 
 -- totals of at most 96 places, whatever these hold, and parts of them: no sum or difference of two wraps
 pub record Bounded (w : Seen) : Type 0 where
-  pub sent : w .sent ≤ 96 * 2 ^ 32
-  pub received : w .received ≤ 96 * 2 ^ 32
-  pub pending : w .pending ≤ 96 * 2 ^ 32
-  pub sent-above : w .above .sent ≤ w .sent
-  pub received-above : w .above .received ≤ w .received
+  pub sends : w .sent ≤ 96 * 2 ^ 32
+  pub receipts : w .received ≤ 96 * 2 ^ 32
+  pub transit : w .pending ≤ 96 * 2 ^ 32
+  pub sends-above : w .above .sent ≤ w .sent
+  pub receipts-above : w .above .received ≤ w .received
 
 pub record Walked (n pos : ℕ) (active : List Bool) (color sent received pending : List ℕ) (w : Seen) : Type 0 where
   pub sends : w .sent ≡ total sent n

@@ -3,7 +3,8 @@ use borrow.Author.Needs.{needs}
 use mathlib.Core.Bool.{_&&_}
 use mathlib.Core.Path.{_∙_, _≡_, ap, ap₂, sym}
 use native.Mathlib.Omega.{arith}
-use Rattle.color.proofs.Bytes.{none-between, white-byte, whiteBetween}
+use Rattle.color.specs.Between.{whiteBetween}
+use Rattle.color.proofs.Bytes.{none-between, white-byte}
 use Rattle.color.proofs.white_from.Statement.{statement}
 use Rattle.color.proofs.white_from.Tie as tie
 

@@ -16,7 +16,7 @@ abbrev μ-loop : tie.MeasureT-loop
     i
 
 loop-holds : tie.Need-loop-holds Inv-loop μ-loop
-loop-holds c = going-none _ _ _ _ _ _ _ (omega arith)
+loop-holds c = going-none _ _ _ _ _ _ _ (omega arith) (omega arith)
 
 sub-i : tie.Need-sub-i Inv-loop μ-loop
 sub-i c = search needs
