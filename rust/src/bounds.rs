@@ -235,8 +235,8 @@ pub mod tables {
 pub mod soundness {
     use super::ring::MAX_NODES;
 
-    /// Numbers of nodes, each with the token at every node.
-    pub const SIZES: [usize; 4] = [1, 2, MAX_NODES - 1, MAX_NODES];
+    /// Numbers of nodes, each with the token at every node: the least and the greatest, and those about the beginning of the last color byte.
+    pub const SIZES: [usize; 6] = [1, 2, MAX_NODES - 8, MAX_NODES - 7, MAX_NODES - 1, MAX_NODES];
     /// On each of them: sound rings of each sort, and near misses of each kind that there is.
     pub const SOUND: usize = 100;
     pub const NEAR_MISSES: usize = 100;

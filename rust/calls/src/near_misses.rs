@@ -60,6 +60,11 @@ impl Kind {
         matches!(self.base, Base::Unsettled | Base::Gathered)
     }
 
+    /// Whether it is refused for being closed alone.
+    pub fn is_of_closed(&self) -> bool {
+        matches!(self.base, Base::Closed)
+    }
+
     /// Such rings with the token at `pos`.
     pub fn at(&self, n: usize, pos: usize, random: &mut Rng) -> Vec<Ring> {
         if !self.nodes.contains(&n) || (self.is_of_safra() && pos + 1 == n) {
@@ -82,9 +87,9 @@ pub fn kinds() -> Vec<Kind> {
         .into_iter()
         .chain(PASSED.map(|(name, change)| (name, Base::Gathered, change)))
         .map(|(name, base, change)| Kind::new(name.to_owned(), 2..=MAX_NODES, base, change));
-    let closed = CLOSED
-        .into_iter()
-        .map(|(name, change)| Kind::new(name.to_owned(), 1..=MAX_NODES, Base::Closed, change));
+    let closed = CLOSED.into_iter().map(|(name, least, change)| {
+        Kind::new(name.to_owned(), least..=MAX_NODES, Base::Closed, change)
+    });
     of_safra.chain(closed).chain(near_counts::kinds()).collect()
 }
 
@@ -159,13 +164,20 @@ const PASSED: [(&str, Change); 7] = [
     }),
 ];
 
-/// Where the run is announced: sound if it were not.
-const CLOSED: [(&str, Change); 3] = [
-    ("closed with a black token", |ring, _| {
+/// Where the run is announced: sound if it were not. With the least number of nodes of which there are such.
+const CLOSED: [(&str, usize, Change); 5] = [
+    ("closed with a black token", 1, |ring, _| {
         ring.token.black = true;
     }),
-    ("closed with node 0 black", |ring, _| blacken(ring, 0)),
-    ("closed with node 0 active", |ring, _| ring.active[0] = true),
+    ("closed with node 0 black", 1, |ring, _| blacken(ring, 0)),
+    ("closed with node 0 active", 1, |ring, _| {
+        ring.active[0] = true
+    }),
+    ("closed with the token at node 1", 2, |ring, _| {
+        ring.token.pos = 1;
+        ring.token.q = counters(ring, 2..ring.n);
+    }),
+    ("closed with a sum of 1", 2, |ring, _| ring.token.q += 1),
 ];
 
 fn blacken_only(ring: &mut Ring, nodes: Range<usize>) {

@@ -190,6 +190,10 @@ impl Met {
                     ring.token.black = true;
                     calls.expect(true, &kind.name, &ring, random);
                 }
+                if kind.is_of_closed() {
+                    ring.closed = false;
+                    calls.expect(true, &kind.name, &ring, random);
+                }
             }
         }
     }

@@ -18,7 +18,14 @@ const CALLS: usize = 20_000;
 const TURN: &str = "--turn";
 
 /// What is measured, and where the second implementation's times of it are beside the proved ones.
-const ROWS: [&str; 4] = ["soundness, 96", "soundness, 2", "step, 96", "step, 2"];
+const ROWS: [&str; 6] = [
+    "sound, 96",
+    "sound, 2",
+    "not sound, 96",
+    "not sound, 2",
+    "step, 96",
+    "step, 2",
+];
 const SECOND: usize = ROWS.len();
 type Times = [f64; 2 * ROWS.len()];
 
@@ -29,6 +36,13 @@ fn ring(n: usize) -> Ring {
     ring.sent[..n].fill(2);
     ring.received[..n].fill(1);
     ring.pending[..n].fill(1);
+    ring
+}
+
+/// The same with one message received too many: it is not sound, by its totals alone.
+fn unsound(n: usize) -> Ring {
+    let mut ring = ring(n);
+    ring.received[0] += 1;
     ring
 }
 
@@ -56,19 +70,18 @@ fn nanoseconds(mut call: impl FnMut() -> bool) -> f64 {
     begin.elapsed().as_nanos() as f64 / CALLS as f64
 }
 
-fn proved_soundness(n: usize) -> f64 {
-    let mut lent = LentRing::of(&ring(n));
+fn proved_soundness(ring: &Ring, sound: bool) -> f64 {
+    let mut lent = LentRing::of(ring);
     nanoseconds(|| {
-        lent.pos = next(lent.pos, n);
-        proved::is_sound(black_box(&mut lent)) == 1
+        lent.pos = next(lent.pos, ring.n);
+        proved::is_sound(black_box(&mut lent)) == u8::from(sound)
     })
 }
 
-fn second_soundness(n: usize) -> f64 {
-    let mut ring = ring(n);
+fn second_soundness(mut ring: Ring, sound: bool) -> f64 {
     nanoseconds(|| {
-        ring.token.pos = next(ring.token.pos, n);
-        black_box(&mut ring).is_sound()
+        ring.token.pos = next(ring.token.pos, ring.n);
+        black_box(&mut ring).is_sound() == sound
     })
 }
 
@@ -91,12 +104,16 @@ fn second_step(n: usize) -> f64 {
 /// One turn's times.
 fn measured() -> Times {
     [
-        proved_soundness(MAX_NODES),
-        proved_soundness(2),
+        proved_soundness(&ring(MAX_NODES), true),
+        proved_soundness(&ring(2), true),
+        proved_soundness(&unsound(MAX_NODES), false),
+        proved_soundness(&unsound(2), false),
         proved_step(MAX_NODES),
         proved_step(2),
-        second_soundness(MAX_NODES),
-        second_soundness(2),
+        second_soundness(ring(MAX_NODES), true),
+        second_soundness(ring(2), true),
+        second_soundness(unsound(MAX_NODES), false),
+        second_soundness(unsound(2), false),
         second_step(MAX_NODES),
         second_step(2),
     ]
@@ -141,7 +158,7 @@ fn run(other: Option<&str>) -> io::Result<()> {
         }
     }
     println!("nanoseconds a call on a ring of 96 and of 2, and ratios; medians of {TURNS} turns, {CALLS} calls each");
-    println!("soundness: of a sound ring, the token at each node in turn; step: the probe and the passes of each round, all accepted");
+    println!("sound, not sound: the soundness of such a ring, the token at each node in turn, the second by its totals alone; step: the probe and the passes of each round, all accepted");
     println!("                proved   second    other   /second    /other");
     for row in 0..ROWS.len() {
         print_row(row, &these, &others);
