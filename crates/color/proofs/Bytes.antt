@@ -1,6 +1,6 @@
 -- The nodes of one byte, by its bits. Assumes nothing.
 use Prim.Native.Nat.{_%_, _*_, _+_, _-_, _/_, _<_, _^_, _≤_, suc, zero, ℕ}
-use borrow.Author.Tests.{eq-eqb, eqb-false, eqb-true, le-ltb, lt-ltb, not-true}
+use borrow.Author.Tests.{eq-eqb, eqb-false, eqb-true, le-ltb, not-true}
 use lib.Dec.{eqb, ltb}
 use lib.ListN.{getD}
 use lib.Pow.{shr-lt, shr-shr}
@@ -12,7 +12,7 @@ use native.Mathlib.Nat.{div-one, zero-div}
 use native.Mathlib.Numerals.{add-one}
 use native.Mathlib.Omega.{arith}
 use Rattle.laws.proofs.Places.{all-at, all-from}
-use Rattle.laws.proofs.Tests.{both, both-true, left-true, not-eq, right-true, same-test}
+use Rattle.laws.proofs.Tests.{both, both-true, not-eq, right-true, same-test}
 use Rattle.color.specs.Between.{whiteBetween}
 use Rattle.color.specs.Colors.{bit, isBlack}
 
@@ -35,9 +35,6 @@ no-bits (suc m) b h z =
 bits-none : (b s j : ℕ) → b / 2 ^ s ≡ 0 → bit b (s + j) ≡ 0
 bits-none b s j e =
     ap (λ (x : ℕ). x % 2) (sym (shr-shr b s j) ∙ ap (λ (x : ℕ). x / 2 ^ j) e ∙ zero-div (2 ^ j))
-
-pub none-between : (c : List ℕ) (n : ℕ) → whiteBetween c n n ≡ true
-none-between c n = all-from n _ (λ i h. left-true _ (lt-ltb i n h))
 
 -- the nodes of byte k from bit s on, none of them below n: all at once
 module _ (c : List ℕ) (n k s : ℕ) (fits : getD c k 0 < 256) (from : n ≤ 8 * k + s) (small : s < 8) where

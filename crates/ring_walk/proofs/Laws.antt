@@ -3,7 +3,7 @@ use Prim.Native.Nat.{_*_, _+_, _-_, _<_, _^_, _≤_, suc, ℕ}
 use borrow.Author.Tests.{le-leb, le-ltb, lt-leb, lt-ltb}
 use lib.Dec.{leb, ltb}
 use lib.ListN.{getD}
-use mathlib.Core.Bool.{Bool, _&&_, _||_, false, not, true}
+use mathlib.Core.Bool.{Bool, _&&_, _||_, and-assoc, and-comm, and-true, false, not, true}
 use mathlib.Core.List.{List}
 use mathlib.Core.Path.{_∙_, _≡_, ap, refl, subst, sym}
 use native.Mathlib.Decide.{decLt}
@@ -74,21 +74,10 @@ Asked p n i ok = (ok && allTo i p) ≡ allTo n p
 module _ (p : ℕ → Bool) (n i : ℕ) (ok : Bool) (e : Asked p n i ok) (h : 0 < i) where
   pub asked-node : (b : Bool) → p (i - 1) ≡ b → Asked p n (i - 1) (ok && b)
   asked-node b q =
-      turned ok (allTo (i - 1) p) b ∙ ap (λ (x : Bool). ok && (allTo (i - 1) p && x)) (sym q) ∙ ap (_&&_ ok) (sym (all-node p i h)) ∙ e
-    where
-      turned : (x y z : Bool) → ((x && z) && y) ≡ (x && (y && z))
-      turned true true true = refl
-      turned true true false = refl
-      turned true false true = refl
-      turned true false false = refl
-      turned false y z = refl
+      and-assoc ok b (allTo (i - 1) p) ∙ ap (_&&_ ok) (and-comm b (allTo (i - 1) p) ∙ ap (_&&_ (allTo (i - 1) p)) (sym q) ∙ sym (all-node p i h)) ∙ e
 
   pub asked-kept : p (i - 1) ≡ true → Asked p n (i - 1) ok
-  asked-kept q = ap (λ (x : Bool). x && allTo (i - 1) p) (sym (kept ok)) ∙ asked-node true q
-    where
-      kept : (z : Bool) → (z && true) ≡ z
-      kept true = refl
-      kept false = refl
+  asked-kept q = ap (λ (x : Bool). x && allTo (i - 1) p) (sym (and-true ok)) ∙ asked-node true q
 
 pub asked-all : (p : ℕ → Bool) (n : ℕ) (ok : Bool) → Asked p n 0 ok → ok ≡ allTo n p
 asked-all p n true e = e

@@ -1,12 +1,14 @@
 // The walk of the soundness check, down the ring from node n - 1 to node 0, as the token goes, and the tests of what it has seen.
 use refusal::COLOR_BYTES;
 use refusal::RING_NODES;
-use refusal::SEND_LIMIT;
 ghost use mathlib.Core.Path.{_≡_};
 ghost use Prim.Native.Nat.{_≤_, _<_, _^_};
 ghost use lib.Signed.{mag};
 ghost use Rattle.ring_walk.specs.Walked.{Bounded, Walked};
 ghost use Rattle.ring_walk.specs.Tests.{flowSeen, safraSeen};
+
+// The limit, as wide as a sum of sends.
+pub const SEND_LIMIT: u64 = refusal::SEND_LIMIT as u64;
 
 // The nodes above the token: what they sent and received, and whether they are passive.
 pub struct Above {
@@ -85,7 +87,7 @@ pub fn flows(w: Seen) -> bool
     requires { ⌜ Bounded w ⌝ }
     ensures { λ r. ⌜ r ≡ flowSeen w ⌝ }
 {
-    (w.sent <= SEND_LIMIT as u64) & (w.sent == w.received + w.pending)
+    (w.sent <= SEND_LIMIT) & (w.sent == w.received + w.pending)
 }
 
 // Does one of Safra's four hold? q and black are the token's.

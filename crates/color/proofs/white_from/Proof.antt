@@ -3,8 +3,9 @@ use borrow.Author.Needs.{needs}
 use mathlib.Core.Bool.{_&&_}
 use mathlib.Core.Path.{_∙_, _≡_, ap, ap₂, sym}
 use native.Mathlib.Omega.{arith}
+use Rattle.laws.proofs.Places.{none-from}
 use Rattle.color.specs.Between.{whiteBetween}
-use Rattle.color.proofs.Bytes.{none-between, white-byte}
+use Rattle.color.proofs.Bytes.{white-byte}
 use Rattle.color.proofs.white_from.Statement.{statement}
 use Rattle.color.proofs.white_from.Tie as tie
 
@@ -19,7 +20,7 @@ abbrev μ-loop : tie.MeasureT-loop
 loop-holds : tie.Need-loop-holds Inv-loop μ-loop
 loop-holds c =
     let all : 8 * (c .args .n / 8) + c .args .n % 8 ≡ c .args .n = omega arith in
-    (omega arith, omega arith, omega arith, sym (ap (whiteBetween (c .args .color .now) (c .args .n)) all ∙ none-between (c .args .color .now) (c .args .n)))
+    (omega arith, omega arith, omega arith, sym (ap (whiteBetween (c .args .color .now) (c .args .n)) all ∙ none-from (c .args .n) _))
 
 element-copy-out-is-clear : tie.Need-element-copy-out-is-clear Inv-loop μ-loop
 element-copy-out-is-clear c = search needs

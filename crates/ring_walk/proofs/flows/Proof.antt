@@ -3,9 +3,6 @@ use mathlib.Core.Path.{refl}
 use Rattle.ring_walk.proofs.flows.Statement.{statement}
 use Rattle.ring_walk.proofs.flows.Tie as tie
 
-cast-result : tie.Need-cast-result
-cast-result c = search needs
-
 add-result : tie.Need-add-result
 add-result c = search needs
 
@@ -13,4 +10,4 @@ returns : tie.Need-returns
 returns c = refl
 
 pub flows-spec : {M : Type 1} → statement M
-flows-spec = tie.close (tie.spec cast-result add-result returns)
+flows-spec = tie.close (tie.spec add-result returns)
