@@ -237,7 +237,7 @@ pub mod soundness {
 
     /// Numbers of nodes, each with the token at every node: the least and the greatest, and those about the beginning of the last color byte.
     pub const SIZES: [usize; 6] = [1, 2, MAX_NODES - 8, MAX_NODES - 7, MAX_NODES - 1, MAX_NODES];
-    /// On each of them: sound rings of each sort, and near misses of each kind that there is.
+    /// On each of them: sound rings of each sort, and near misses and wild totals of each kind that there is.
     pub const SOUND: usize = 100;
     pub const NEAR_MISSES: usize = 100;
     /// On each of them: each field broken alone, and each two together, not sound.

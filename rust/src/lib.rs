@@ -19,5 +19,6 @@ pub mod table;
 pub mod takes;
 pub mod tally;
 pub mod text;
+pub mod times;
 pub mod tree;
 pub mod walk;

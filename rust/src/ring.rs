@@ -2,6 +2,7 @@
 
 use crate::refusal::{require, Refusal};
 use crate::request::{Request, ANNOUNCE, IDLE, PASS, PROBE, SEND, SEND_LIMIT, TAKE};
+use std::ops::Range;
 
 pub const MAX_NODES: usize = 96;
 /// Eight nodes a byte.
@@ -93,7 +94,7 @@ impl Ring {
         self.color[i / 8] >> (i % 8) & 1 == 1
     }
 
-    fn set_black(&mut self, i: usize, black: bool) {
+    pub fn set_black(&mut self, i: usize, black: bool) {
         let bit = 1 << (i % 8);
         if black {
             self.color[i / 8] |= bit;
@@ -157,24 +158,31 @@ impl Ring {
 
     /// One of Safra's four holds.
     fn safra_holds(&self) -> bool {
+        (0..4).any(|which| self.safra(which))
+    }
+
+    /// Whether this one of Safra's four holds, in the paper's order.
+    pub fn safra(&self, which: usize) -> bool {
         let t = self.token.pos;
-        let q = i128::from(self.token.q);
-        let passed_are_settled =
-            (t + 1..self.n).all(|i| !self.active[i]) && q == self.counters(t + 1, self.n);
-        passed_are_settled
-            || q + self.counters(0, t + 1) > 0
-            || (0..=t).any(|i| self.is_black(i))
-            || self.token.black
+        match which {
+            0 => {
+                (t + 1..self.n).all(|i| !self.active[i])
+                    && self.token.q == self.counters(t + 1..self.n)
+            }
+            1 => self.sum(0..t + 1) > 0,
+            2 => (0..=t).any(|i| self.is_black(i)),
+            _ => self.token.black,
+        }
     }
 
-    /// The total of the counters of nodes `from` to `to` - 1.
-    fn counters(&self, from: usize, to: usize) -> i128 {
-        (from..to).map(|i| i128::from(self.counter(i))).sum()
+    /// The total of the counters of some nodes.
+    pub fn counters(&self, nodes: Range<usize>) -> i64 {
+        nodes.map(|i| self.counter(i)).sum()
     }
 
-    /// q plus the counter of node 0.
-    fn sum_at_zero(&self) -> i128 {
-        i128::from(self.token.q) + i128::from(self.counter(0))
+    /// q plus the counters of some nodes.
+    pub fn sum(&self, nodes: Range<usize>) -> i128 {
+        i128::from(self.token.q) + i128::from(self.counters(nodes))
     }
 
     /// The announce test: the condition of rule 6.
@@ -182,14 +190,14 @@ impl Ring {
         self.token.pos == 0
             && !self.token.black
             && !self.is_black(0)
-            && self.sum_at_zero() == 0
+            && self.sum(0..1) == 0
             && !self.active[0]
             && self.pending[0] == 0
     }
 
     /// The condition of rule 4.
     fn may_probe(&self) -> bool {
-        self.token.pos == 0 && (self.token.black || self.is_black(0) || self.sum_at_zero() > 0)
+        self.token.pos == 0 && (self.token.black || self.is_black(0) || self.sum(0..1) > 0)
     }
 
     /// The condition of rule 5.

@@ -1,8 +1,8 @@
-//! Near misses of what soundness asks of totals, of q's range and of the places that no node uses. The token is black, so that nothing
-//! else refuses them.
+//! Near misses of what soundness asks of totals, of q's range and of the places that no node uses, and wild totals. The token is black, so that
+//! nothing else refuses them.
 
-use crate::near_misses::{another, Base, Kind};
-use crate::sound_rings::{blacken, with_q_beyond, with_sends, Column};
+use crate::near_misses::{Base, Fault, Kind};
+use crate::sound_rings::{with_q_beyond, with_sends, Column};
 use second::generate::Rng;
 use second::request::SEND_LIMIT;
 use second::ring::{Ring, MAX_NODES};
@@ -28,21 +28,38 @@ fn one(
     name: String,
     nodes: RangeInclusive<usize>,
     change: impl Fn(&mut Ring, &mut Rng) + 'static,
+    fault: impl Fn(&Ring) -> bool + 'static,
 ) -> Kind {
-    Kind::new(name, nodes, Base::BlackToken, change)
+    Kind::new(name, nodes, Base::BlackToken, change, fault)
 }
 
 fn several(
     name: String,
     nodes: RangeInclusive<usize>,
     make: impl Fn(&Ring, &mut Rng) -> Vec<Ring> + 'static,
+    fault: impl Fn(&Ring) -> bool + 'static,
 ) -> Kind {
     Kind {
         name,
         nodes,
         base: Base::BlackToken,
         make: Box::new(make),
+        fault: Some(Box::new(fault)),
     }
+}
+
+/// The totals of the columns, of the places that are looked at.
+fn totals(ring: &Ring, looked_at: impl Fn(usize, usize) -> bool) -> [u64; COLUMNS.len()] {
+    let columns = [&ring.sent, &ring.received, &ring.pending];
+    [SENT, RECEIVED, PENDING].map(|k| {
+        let places = (0..MAX_NODES).filter(|&place| looked_at(k, place));
+        places.map(|place| u64::from(columns[k][place])).sum()
+    })
+}
+
+/// What soundness asks of totals, with this limit of sends.
+fn agree([sent, received, pending]: [u64; COLUMNS.len()], limit: u32) -> bool {
+    sent <= u64::from(limit) && sent == received + pending
 }
 
 fn column(ring: &mut Ring, column: usize) -> &mut Column {
@@ -60,14 +77,23 @@ fn some(random: &mut Rng) -> u32 {
 /// Totals that agree only if a node is left out of all of them, or of one.
 fn left_out(name: &str, node: fn(&Ring) -> usize) -> Vec<Kind> {
     let whole = format!("totals that agree if {name} is left out");
-    let whole = one(whole, ALL, move |ring, random| {
-        without_node(ring, node(ring), random);
-    });
+    let whole = one(
+        whole,
+        ALL,
+        move |ring, random| without_node(ring, node(ring), random),
+        move |ring| agree(totals(ring, |_, place| place != node(ring)), SEND_LIMIT),
+    );
     let of_columns = COLUMNS.iter().enumerate().map(|(k, column)| {
         let name = format!("totals that agree if {name} is left out of {column}");
-        one(name, ALL, move |ring, random| {
-            without_place(ring, k, node(ring), random);
-        })
+        one(
+            name,
+            ALL,
+            move |ring, random| without_place(ring, k, node(ring), random),
+            move |ring| {
+                let looked_at = |column, place| (column, place) != (k, node(ring));
+                agree(totals(ring, looked_at), SEND_LIMIT)
+            },
+        )
     });
     [whole].into_iter().chain(of_columns).collect()
 }
@@ -75,7 +101,8 @@ fn left_out(name: &str, node: fn(&Ring) -> usize) -> Vec<Kind> {
 /// What the others have agrees, what the node has does not.
 fn without_node(ring: &mut Ring, i: usize, random: &mut Rng) {
     let [sent, received, pending] = [ring.sent, ring.received, ring.pending].map(|c| c[i]);
-    if let Some(j) = another(ring.n, i, random) {
+    if ring.n > 1 {
+        let j = random.other_node(ring.n, i);
         ring.sent[j] += sent.saturating_sub(received + pending);
         ring.received[j] += (received + pending).saturating_sub(sent);
     }
@@ -87,11 +114,14 @@ fn without_node(ring: &mut Ring, i: usize, random: &mut Rng) {
 /// What another node has more makes up for the place; where there is no other node, the other columns do.
 fn without_place(ring: &mut Ring, k: usize, i: usize, random: &mut Rng) {
     let there = column(ring, k)[i];
-    match (another(ring.n, i, random), k) {
-        (Some(j), _) => column(ring, k)[j] += there,
-        (None, SENT) => (ring.received[i], ring.pending[i]) = (0, 0),
-        (None, RECEIVED) => ring.pending[i] = ring.sent[i],
-        (None, _) => ring.received[i] = ring.sent[i],
+    match k {
+        _ if ring.n > 1 => {
+            let j = random.other_node(ring.n, i);
+            column(ring, k)[j] += there;
+        }
+        SENT => (ring.received[i], ring.pending[i]) = (0, 0),
+        RECEIVED => ring.pending[i] = ring.sent[i],
+        _ => ring.received[i] = ring.sent[i],
     }
     if there == 0 {
         column(ring, k)[i] = some(random);
@@ -101,23 +131,38 @@ fn without_place(ring: &mut Ring, k: usize, i: usize, random: &mut Rng) {
 /// Totals that agree only if a sum is cut to 32 bits.
 fn cut() -> Vec<Kind> {
     let together = "received and pending that agree if their sum is cut to 32 bits".to_owned();
-    let together = one(together, ALL, |ring, random| {
-        let [i, j] = [(); 2].map(|()| random.below(ring.n));
-        let [first, rest] = halves(random);
-        ring.received[i] += first;
-        ring.pending[j] += rest;
-    });
+    let together = one(
+        together,
+        ALL,
+        |ring, random| {
+            let [i, j] = [(); 2].map(|()| random.below(ring.n));
+            let [first, rest] = halves(random);
+            ring.received[i] += first;
+            ring.pending[j] += rest;
+        },
+        agree_if_cut,
+    );
     let of_columns = COLUMNS.iter().enumerate().map(|(k, name)| {
         let name = format!("{name} that agrees if its total is cut to 32 bits");
-        one(name, SEVERAL, move |ring, random| {
-            let i = random.below(ring.n);
-            let j = another(ring.n, i, random).expect("two nodes");
-            let [first, rest] = halves(random);
-            column(ring, k)[i] += first;
-            column(ring, k)[j] += rest;
-        })
+        one(
+            name,
+            SEVERAL,
+            move |ring, random| {
+                let i = random.below(ring.n);
+                let j = random.other_node(ring.n, i);
+                let [first, rest] = halves(random);
+                column(ring, k)[i] += first;
+                column(ring, k)[j] += rest;
+            },
+            agree_if_cut,
+        )
     });
     [together].into_iter().chain(of_columns).collect()
+}
+
+fn agree_if_cut(ring: &Ring) -> bool {
+    let [sent, received, pending] = totals(ring, |_, _| true).map(|total| total as u32);
+    sent <= SEND_LIMIT && sent == received.wrapping_add(pending)
 }
 
 /// Two numbers that are 2^32 together, each with room for a node's counts above it.
@@ -127,7 +172,7 @@ fn halves(random: &mut Rng) -> [u32; 2] {
     [first, first.wrapping_neg()]
 }
 
-/// The greatest number at all nodes, or in all places, of some columns; the others are 0.
+/// Wild: the greatest number at all nodes, or in all places, of some columns; the others are 0.
 fn greatest() -> Vec<Kind> {
     let columns: [&[usize]; 6] = [
         &[SENT],
@@ -140,10 +185,17 @@ fn greatest() -> Vec<Kind> {
     let of_columns = |columns: &'static [usize]| {
         let names: Vec<&str> = columns.iter().map(|&k| COLUMNS[k]).collect();
         let name = format!("the greatest number everywhere in {}", names.join(", "));
-        several(name, ALL, |ring, _| {
+        let make = |ring: &Ring, _: &mut Rng| {
             let places = [ring.n, MAX_NODES];
             places.map(|places| filled(ring, columns, places)).into()
-        })
+        };
+        Kind {
+            name,
+            nodes: ALL,
+            base: Base::BlackToken,
+            make: Box::new(make),
+            fault: None,
+        }
     };
     columns.into_iter().map(of_columns).collect()
 }
@@ -164,14 +216,22 @@ fn ends() -> Vec<Kind> {
     let sends = "one send more than may be, of all nodes".to_owned();
     let q = "q one beyond its range".to_owned();
     vec![
-        several(sends, ALL, |ring, random| {
-            vec![with_sends(ring, SEND_LIMIT + 1, random)]
-        }),
-        several(q, ALL, |ring, _| {
-            [false, true]
-                .map(|below| with_q_beyond(ring, 1, below))
-                .into()
-        }),
+        several(
+            sends,
+            ALL,
+            |ring, random| vec![with_sends(ring, SEND_LIMIT + 1, random)],
+            |ring| agree(totals(ring, |_, _| true), SEND_LIMIT + 1),
+        ),
+        several(
+            q,
+            ALL,
+            |ring, _| {
+                [false, true]
+                    .map(|below| with_q_beyond(ring, 1, below))
+                    .into()
+            },
+            |ring| ring.token.q.abs() <= with_q_beyond(ring, 1, false).token.q,
+        ),
     ]
 }
 
@@ -181,24 +241,41 @@ fn unused() -> Vec<Kind> {
     let black = "an unused place black".to_owned();
     let shared = "a black place in the byte that nodes share with unused places".to_owned();
     let flags = [
-        in_each(active, unused_places, |ring, place, _| {
-            ring.active[place] = true;
-        }),
-        in_each(black, unused_places, |ring, place, _| blacken(ring, place)),
-        in_each(shared, sharing_places, |ring, place, _| {
-            blacken(ring, place)
-        }),
+        in_each(
+            active,
+            unused_places,
+            |ring, place, _| ring.active[place] = true,
+            is_sound_emptied,
+        ),
+        in_each(
+            black,
+            unused_places,
+            |ring, place, _| ring.set_black(place, true),
+            is_sound_emptied,
+        ),
+        in_each(
+            shared,
+            sharing_places,
+            |ring, place, _| ring.set_black(place, true),
+            is_sound_emptied,
+        ),
     ];
     let counts = COLUMNS.iter().enumerate().flat_map(|(k, name)| {
         let nodes = format!("{name} in an unused place, the totals of the nodes right");
         let all = format!("{name} in an unused place, the totals of all places right");
         [
-            in_each(nodes, unused_places, move |ring, place, random| {
-                column(ring, k)[place] = some(random);
-            }),
-            in_each(all, unused_places, move |ring, place, random| {
-                in_balance(ring, k, place, random);
-            }),
+            in_each(
+                nodes,
+                unused_places,
+                move |ring, place, random| column(ring, k)[place] = some(random),
+                is_sound_emptied,
+            ),
+            in_each(
+                all,
+                unused_places,
+                move |ring, place, random| in_balance(ring, k, place, random),
+                |ring| agree(totals(ring, |_, _| true), SEND_LIMIT),
+            ),
         ]
     });
     flags.into_iter().chain(counts).collect()
@@ -209,15 +286,28 @@ fn in_each(
     name: String,
     places: fn(usize) -> Vec<usize>,
     change: impl Fn(&mut Ring, usize, &mut Rng) + 'static,
+    fault: Fault,
 ) -> Kind {
-    several(name, WITH_UNUSED, move |ring, random| {
+    let make = move |ring: &Ring, random: &mut Rng| {
         let changed = |place| {
             let mut ring = ring.clone();
             change(&mut ring, place, random);
             ring
         };
         places(ring.n).into_iter().map(changed).collect()
-    })
+    };
+    several(name, WITH_UNUSED, make, fault)
+}
+
+/// Whether the ring is sound where the places that no node uses are not looked at.
+fn is_sound_emptied(ring: &Ring) -> bool {
+    let mut ring = ring.clone();
+    for place in ring.n..MAX_NODES {
+        ring.active[place] = false;
+        ring.set_black(place, false);
+        (0..COLUMNS.len()).for_each(|k| column(&mut ring, k)[place] = 0);
+    }
+    ring.is_sound()
 }
 
 /// The first places that no node uses, and the last.

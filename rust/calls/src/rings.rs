@@ -4,7 +4,6 @@ use crate::answers::{Answers, BySize};
 use crate::lent::LentRing;
 use crate::requests::{no_counts, request, takes, waiting, Course};
 use crate::same::{other, same_soundness, same_start, same_step};
-use crate::sound_rings::counters;
 use crate::{fail, proved};
 use second::bounds::answers::{IS_SOUND, OF_SOUND, RING_DRIVE, RING_START};
 use second::bounds::calls::{ANNOUNCED, ANSWER, BROKEN, ON_RINGS, STARTS, STEPS, TAKES};
@@ -297,7 +296,7 @@ fn balanced(ring: &Ring, random: &mut Rng) -> Ring {
             wild.color = random.pick(&[[0; COLOR_BYTES], ring.color]);
             wild.token = Token {
                 pos,
-                q: random.pick(&[counters(ring, pos + 1..ring.n), -counters(ring, 0..pos + 1)])
+                q: random.pick(&[ring.counters(pos + 1..ring.n), -ring.counters(0..pos + 1)])
                     + around,
                 black: false,
             };

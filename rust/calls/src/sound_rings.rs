@@ -3,7 +3,6 @@
 use second::generate::Rng;
 use second::request::SEND_LIMIT;
 use second::ring::{Ring, Token, MAX_NODES};
-use std::ops::Range;
 
 pub type Column = [u32; MAX_NODES];
 
@@ -136,7 +135,7 @@ fn few_sends(n: usize, random: &mut Rng) -> u32 {
 /// Nothing is pending, so that the sum is 0 where q is what is gathered.
 pub fn gathered(n: usize, pos: usize, random: &mut Rng) -> Ring {
     let mut ring = counted(n, pos, few_sends(n, random), 0, random);
-    ring.token.q = counters(&ring, pos + 1..n);
+    ring.token.q = ring.counters(pos + 1..n);
     ring
 }
 
@@ -162,8 +161,8 @@ pub fn unsettled(n: usize, pos: usize, sum: i64, random: &mut Rng) -> Ring {
 /// Sets q so that it gives this sum; where it is what is gathered, and else now and then, a node above the token is active.
 pub fn set_sum(ring: &mut Ring, sum: i64, random: &mut Rng) {
     let (n, pos) = (ring.n, ring.token.pos);
-    ring.token.q = sum - counters(ring, 0..pos + 1);
-    if ring.token.q == counters(ring, pos + 1..n) || random.chance(50) {
+    ring.token.q = sum - ring.counters(0..pos + 1);
+    if ring.token.q == ring.counters(pos + 1..n) || random.chance(50) {
         let any = pos + 1 + random.below(n - 1 - pos);
         ring.active[random.pick(&[pos + 1, any, n - 1])] = true;
     }
@@ -184,7 +183,7 @@ fn positive(n: usize, pos: usize, random: &mut Rng) -> Ring {
 fn with_black(n: usize, pos: usize, i: usize, random: &mut Rng) -> Ring {
     let sum = no_sum(random);
     let mut ring = unsettled(n, pos, sum, random);
-    blacken(&mut ring, i);
+    ring.set_black(i, true);
     ring
 }
 
@@ -226,23 +225,7 @@ pub fn with_q_beyond(ring: &Ring, beyond: i64, below: bool) -> Ring {
     ring
 }
 
-pub fn blacken(ring: &mut Ring, i: usize) {
-    ring.color[i / 8] |= 1 << (i % 8);
-}
-
-/// The total of the counters of some nodes.
-pub fn counters(ring: &Ring, nodes: Range<usize>) -> i64 {
-    nodes.map(|i| ring.counter(i)).sum()
-}
-
 /// Which of Safra's four hold.
 pub fn four(ring: &Ring) -> [bool; 4] {
-    let (n, pos, q) = (ring.n, ring.token.pos, ring.token.q);
-    let above_are_passive = ring.active[pos + 1..n].iter().all(|active| !active);
-    [
-        above_are_passive && q == counters(ring, pos + 1..n),
-        q + counters(ring, 0..pos + 1) > 0,
-        (0..pos + 1).any(|i| ring.is_black(i)),
-        ring.token.black,
-    ]
+    [0, 1, 2, 3].map(|which| ring.safra(which))
 }

@@ -257,11 +257,13 @@ fn report_unsound(sizes: &[Met], kinds: &[Kind], report: &mut Report) {
     for (k, kind) in kinds.iter().enumerate() {
         let sizes = sizes.iter().filter(|met| kind.nodes.contains(&met.n));
         let of: Vec<String> = sizes.clone().map(|met| met.n.to_string()).collect();
-        let name = format!(
-            "ring, least of {}: told as not sound, {}",
-            of.join(", "),
-            kind.name
-        );
+        let how = if kind.fault.is_some() {
+            "by little"
+        } else {
+            "wild"
+        };
+        let (of, kind) = (of.join(", "), &kind.name);
+        let name = format!("ring, least of {of}: told as not sound, {how}: {kind}");
         let counts = sizes.map(|met| met.near_misses[k]);
         report.at_least(name, least(counts), NEAR_MISSES);
     }

@@ -112,7 +112,7 @@ pub fn grown(random: &mut Rng) -> Tree {
 fn hand_over(tree: &mut Tree, random: &mut Rng) {
     let n = tree.n;
     let i = random.node(n, |i| tree.active[i]).expect("an active root");
-    let j = (i + 1 + random.below(n - 1)) % n;
+    let j = random.other_node(n, i);
     for request in [Request::new(SEND, i, j), Request::new(TAKE, j, i)] {
         tree.step(request).expect("an allowed step");
     }

@@ -5,6 +5,7 @@
 
 use second::generate::{busy_ring, busy_tree, busy_updates, moving_token};
 use second::log::LINE_LIMIT;
+use second::times::median;
 use std::fs::{self, File};
 use std::io;
 use std::path::{Path, PathBuf};
@@ -25,11 +26,6 @@ fn seconds(program: &[&str], log: &Path) -> io::Result<f64> {
         .status()?;
     assert!(status.success(), "{} failed", program[0]);
     Ok(begin.elapsed().as_secs_f64())
-}
-
-fn median(mut times: Vec<f64>) -> f64 {
-    times.sort_by(f64::total_cmp);
-    times[times.len() / 2]
 }
 
 /// The medians of each run's times, all of them made in each turn: a program and its log.

@@ -13,7 +13,7 @@ const MOVES: usize = 5;
 /// A sender and a receiver, and more messages than one take may be of.
 pub fn delivery(rng: &mut Rng, n: usize) -> (usize, usize, usize) {
     let receiver = rng.below(n);
-    let sender = (receiver + 1 + rng.below(n - 1)) % n;
+    let sender = rng.other_node(n, receiver);
     (sender, receiver, TAKE_LIMIT + 1 + rng.below(BEYOND))
 }
 

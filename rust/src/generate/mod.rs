@@ -231,7 +231,7 @@ fn long_end(rng: &mut Rng, mut log: Vec<u8>) -> Vec<u8> {
 fn late_receipt(rng: &mut Rng, lines: usize) -> Vec<u8> {
     let n = ring_size(rng).max(2);
     let receiver = if rng.chance(60) { 0 } else { rng.below(n) };
-    let sender = (receiver + 1 + rng.below(n - 1)) % n;
+    let sender = rng.other_node(n, receiver);
     let black: Vec<usize> = (0..n).filter(|_| rng.chance(30)).collect();
     let mut writer = Writer::ring(n, &[sender], &black);
     writer.request(Request::new(SEND, sender, receiver));

@@ -199,7 +199,7 @@ fn ring_allowed_of(ring: &Ring, class: usize, rng: &mut Rng) -> Option<Request> 
     match class {
         SEND if ring.n > 1 => {
             let i = rng.node(ring.n, active)?;
-            let j = (i + 1 + rng.below(ring.n - 1)) % ring.n;
+            let j = rng.other_node(ring.n, i);
             Some(Request::new(SEND, i, j))
         }
         SEND => None,
@@ -271,7 +271,7 @@ fn tree_allowed_of(tree: &Tree, class: usize, rng: &mut Rng) -> Option<Request> 
     match class {
         SEND if n > 1 => {
             let i = rng.node(n, |i| tree.active[i])?;
-            let j = (i + 1 + rng.below(n - 1)) % n;
+            let j = rng.other_node(n, i);
             Some(Request::new(SEND, i, j))
         }
         SEND => None,

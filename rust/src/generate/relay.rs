@@ -54,7 +54,7 @@ impl Relay {
         let sender = self.receiver;
         self.receiver = match rng.below(5) {
             0 if sender > 0 => 0,
-            _ => (sender + 1 + rng.below(self.n - 1)) % self.n,
+            _ => rng.other_node(self.n, sender),
         };
         self.request(SEND, sender, self.receiver);
         self.request(IDLE, sender, 0);

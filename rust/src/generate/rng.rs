@@ -29,6 +29,11 @@ impl Rng {
         from[self.below(from.len())]
     }
 
+    /// A node below `n`, which is above 1, other than `i`.
+    pub fn other_node(&mut self, n: usize, i: usize) -> usize {
+        (i + 1 + self.below(n - 1)) % n
+    }
+
     /// A node below `n` of which `wanted` holds, searched from a random one on.
     pub fn node(&mut self, n: usize, wanted: impl Fn(usize) -> bool) -> Option<usize> {
         let first = self.below(n);

@@ -203,7 +203,7 @@ fn of_soundness() -> Vec<String> {
         format!("or the last or cut to {} bits", u32::BITS),
         filled("sound rings of each sort {} times", &[soundness::SOUND]),
         filled(
-            "near misses of each kind {} times",
+            "near misses and wild totals of each kind {} times",
             &[soundness::NEAR_MISSES],
         ),
         filled(

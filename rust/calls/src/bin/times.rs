@@ -7,6 +7,7 @@ use calls::lent::LentRing;
 use calls::proved;
 use second::request::{Request, PASS, PROBE};
 use second::ring::{Ring, MAX_NODES};
+use second::times::median;
 use std::ffi::OsStr;
 use std::hint::black_box;
 use std::io;
@@ -130,20 +131,15 @@ fn turn(program: &OsStr) -> io::Result<Times> {
         .ok_or_else(|| io::Error::other(format!("{program:?} {TURN} printed {text:?}")))
 }
 
-fn median(turns: &[Times], which: usize) -> f64 {
-    let mut times: Vec<f64> = turns.iter().map(|turn| turn[which]).collect();
-    times.sort_by(f64::total_cmp);
-    times[times.len() / 2]
-}
-
 fn print_row(row: usize, these: &[Times], others: &[Times]) {
-    let [proved, second] = [row, SECOND + row].map(|which| median(these, which));
+    let of = |turns: &[Times], which: usize| median(turns.iter().map(|turn| turn[which]).collect());
+    let [proved, second] = [row, SECOND + row].map(|which| of(these, which));
     let ratio = proved / second;
     print!("{:13} {proved:8.1} {second:8.1}", ROWS[row]);
     if others.is_empty() {
         println!(" {:>8} {ratio:9.2} {:>9}", "-", "-");
     } else {
-        let other = median(others, row);
+        let other = of(others, row);
         println!(" {other:8.1} {ratio:9.2} {:9.2}", proved / other);
     }
 }
@@ -158,7 +154,7 @@ fn run(other: Option<&str>) -> io::Result<()> {
         }
     }
     println!("nanoseconds a call on a ring of 96 and of 2, and ratios; medians of {TURNS} turns, {CALLS} calls each");
-    println!("sound, not sound: the soundness of such a ring, the token at each node in turn, the second by its totals alone; step: the probe and the passes of each round, all accepted");
+    println!("sound, not sound: the soundness of a ring that is sound, and of one that is not, by its totals alone, the token at each node in turn; step: the probe and the passes of each round, all accepted");
     println!("                proved   second    other   /second    /other");
     for row in 0..ROWS.len() {
         print_row(row, &these, &others);
