@@ -1,21 +1,20 @@
 //! Near misses of what soundness asks of totals, of q's range and of the places that no node uses, and wild totals. The token is black, so that
 //! nothing else refuses them.
 
-use crate::near_misses::{Base, Fault, Kind};
+use crate::near_misses::{Base, Fault, Kind, Nodes, ALL, SEVERAL};
 use crate::sound_rings::{with_q_beyond, with_sends, Column};
 use second::generate::Rng;
 use second::request::SEND_LIMIT;
 use second::ring::{Ring, MAX_NODES};
-use std::ops::RangeInclusive;
 
 const SENT: usize = 0;
 const RECEIVED: usize = 1;
 const PENDING: usize = 2;
 const COLUMNS: [&str; 3] = ["sent", "received", "pending"];
 
-const ALL: RangeInclusive<usize> = 1..=MAX_NODES;
-const SEVERAL: RangeInclusive<usize> = 2..=MAX_NODES;
-const WITH_UNUSED: RangeInclusive<usize> = 1..=MAX_NODES - 1;
+/// There are unused places; there is a byte of color that nodes share with some.
+const WITH_UNUSED: Nodes = |n| n < MAX_NODES;
+const SHARING: Nodes = |n| n % 8 != 0;
 
 pub fn kinds() -> impl Iterator<Item = Kind> {
     let first = left_out("node 0", |_| 0);
@@ -26,7 +25,7 @@ pub fn kinds() -> impl Iterator<Item = Kind> {
 
 fn one(
     name: String,
-    nodes: RangeInclusive<usize>,
+    nodes: Nodes,
     change: impl Fn(&mut Ring, &mut Rng) + 'static,
     fault: impl Fn(&Ring) -> bool + 'static,
 ) -> Kind {
@@ -35,7 +34,7 @@ fn one(
 
 fn several(
     name: String,
-    nodes: RangeInclusive<usize>,
+    nodes: Nodes,
     make: impl Fn(&Ring, &mut Rng) -> Vec<Ring> + 'static,
     fault: impl Fn(&Ring) -> bool + 'static,
 ) -> Kind {
@@ -243,19 +242,19 @@ fn unused() -> Vec<Kind> {
     let flags = [
         in_each(
             active,
-            unused_places,
+            (WITH_UNUSED, unused_places),
             |ring, place, _| ring.active[place] = true,
             is_sound_emptied,
         ),
         in_each(
             black,
-            unused_places,
+            (WITH_UNUSED, unused_places),
             |ring, place, _| ring.set_black(place, true),
             is_sound_emptied,
         ),
         in_each(
             shared,
-            sharing_places,
+            (SHARING, sharing_places),
             |ring, place, _| ring.set_black(place, true),
             is_sound_emptied,
         ),
@@ -266,13 +265,13 @@ fn unused() -> Vec<Kind> {
         [
             in_each(
                 nodes,
-                unused_places,
+                (WITH_UNUSED, unused_places),
                 move |ring, place, random| column(ring, k)[place] = some(random),
                 is_sound_emptied,
             ),
             in_each(
                 all,
-                unused_places,
+                (WITH_UNUSED, unused_places),
                 move |ring, place, random| in_balance(ring, k, place, random),
                 |ring| agree(totals(ring, |_, _| true), SEND_LIMIT),
             ),
@@ -284,7 +283,7 @@ fn unused() -> Vec<Kind> {
 /// One near miss for each of some unused places.
 fn in_each(
     name: String,
-    places: fn(usize) -> Vec<usize>,
+    (nodes, places): (Nodes, fn(usize) -> Vec<usize>),
     change: impl Fn(&mut Ring, usize, &mut Rng) + 'static,
     fault: Fault,
 ) -> Kind {
@@ -296,7 +295,7 @@ fn in_each(
         };
         places(ring.n).into_iter().map(changed).collect()
     };
-    several(name, WITH_UNUSED, make, fault)
+    several(name, nodes, make, fault)
 }
 
 /// Whether the ring is sound where the places that no node uses are not looked at.

@@ -4,8 +4,8 @@
 use crate::near_counts;
 use crate::sound_rings::{black_token, closed, gathered, no_sum, set_sum, unsettled};
 use second::generate::Rng;
-use second::ring::{Ring, COLOR_BYTES, MAX_NODES};
-use std::ops::{Range, RangeInclusive};
+use second::ring::{Ring, COLOR_BYTES};
+use std::ops::Range;
 
 /// What a near miss is made from.
 #[derive(Clone, Copy)]
@@ -26,11 +26,16 @@ pub type Change = fn(&mut Ring, &mut Rng);
 /// A test that is wrong: where all others of soundness hold, it lets a near miss through.
 pub type Fault = fn(&Ring) -> bool;
 
+/// Whether there are such rings of so many nodes.
+pub type Nodes = fn(usize) -> bool;
+
+pub const ALL: Nodes = |_| true;
+pub const SEVERAL: Nodes = |n| n > 1;
+
 /// A kind of near misses.
 pub struct Kind {
     pub name: String,
-    /// The numbers of nodes of which there are some.
-    pub nodes: RangeInclusive<usize>,
+    pub nodes: Nodes,
     pub base: Base,
     pub make: Box<dyn Fn(&Ring, &mut Rng) -> Vec<Ring>>,
     /// None if they are wild, and not near.
@@ -41,7 +46,7 @@ impl Kind {
     /// Of one change each.
     pub fn new(
         name: String,
-        nodes: RangeInclusive<usize>,
+        nodes: Nodes,
         base: Base,
         change: impl Fn(&mut Ring, &mut Rng) + 'static,
         fault: impl Fn(&Ring) -> bool + 'static,
@@ -72,7 +77,7 @@ impl Kind {
 
     /// Such rings with the token at `pos`, each let through by the fault.
     pub fn at(&self, n: usize, pos: usize, random: &mut Rng) -> Vec<Ring> {
-        if !self.nodes.contains(&n) || (self.is_of_safra() && pos + 1 == n) {
+        if !(self.nodes)(n) || (self.is_of_safra() && pos + 1 == n) {
             return Vec::new();
         }
         let ring = self.base(n, pos, random);
@@ -99,14 +104,16 @@ impl Kind {
 }
 
 pub fn kinds() -> Vec<Kind> {
-    let of = |base: Base, least: usize| {
+    let of = |base: Base, nodes: Nodes| {
         move |(name, change, fault): (&str, Change, Fault)| {
-            Kind::new(name.to_owned(), least..=MAX_NODES, base, change, fault)
+            Kind::new(name.to_owned(), nodes, base, change, fault)
         }
     };
-    let safra = COLORS_AND_SUMS.map(of(Base::Unsettled, 2)).into_iter();
-    let safra = safra.chain(PASSED.map(of(Base::Gathered, 2)));
-    let closed = CLOSED.map(|(least, kind)| of(Base::Closed, least)(kind));
+    let safra = COLORS_AND_SUMS
+        .map(of(Base::Unsettled, SEVERAL))
+        .into_iter();
+    let safra = safra.chain(PASSED.map(of(Base::Gathered, SEVERAL)));
+    let closed = CLOSED.map(|(nodes, kind)| of(Base::Closed, nodes)(kind));
     safra.chain(closed).chain(near_counts::kinds()).collect()
 }
 
@@ -224,11 +231,10 @@ const PASSED: [(&str, Change, Fault); 7] = [
     ),
 ];
 
-/// Where the run is announced: sound if it were not, and if the test of announce forgot one of its six. With the least number of nodes of
-/// which there are such. (There is none with a message on its way to node 0 alone: Safra's four refuse it.)
-const CLOSED: [(usize, (&str, Change, Fault)); 5] = [
+/// Where the run is announced: sound if it were not, and if the test of announce forgot one of its six. (There is none with a message on its way to node 0 alone: Safra's four refuse it.)
+const CLOSED: [(Nodes, (&str, Change, Fault)); 5] = [
     (
-        2,
+        SEVERAL,
         (
             "closed with the token at node 1",
             |ring, _| {
@@ -242,7 +248,7 @@ const CLOSED: [(usize, (&str, Change, Fault)); 5] = [
         ),
     ),
     (
-        1,
+        ALL,
         (
             "closed with a black token",
             |ring, _| ring.token.black = true,
@@ -250,7 +256,7 @@ const CLOSED: [(usize, (&str, Change, Fault)); 5] = [
         ),
     ),
     (
-        1,
+        ALL,
         (
             "closed with node 0 black",
             |ring, _| ring.set_black(0, true),
@@ -258,7 +264,7 @@ const CLOSED: [(usize, (&str, Change, Fault)); 5] = [
         ),
     ),
     (
-        2,
+        SEVERAL,
         (
             "closed with a sum of 1",
             |ring, _| ring.token.q += 1,
@@ -266,7 +272,7 @@ const CLOSED: [(usize, (&str, Change, Fault)); 5] = [
         ),
     ),
     (
-        1,
+        ALL,
         (
             "closed with node 0 active",
             |ring, _| ring.active[0] = true,

@@ -255,7 +255,7 @@ fn least(counts: impl IntoIterator<Item = usize>) -> usize {
 /// What is told as not sound, on the size where each was met least.
 fn report_unsound(sizes: &[Met], kinds: &[Kind], report: &mut Report) {
     for (k, kind) in kinds.iter().enumerate() {
-        let sizes = sizes.iter().filter(|met| kind.nodes.contains(&met.n));
+        let sizes = sizes.iter().filter(|met| (kind.nodes)(met.n));
         let of: Vec<String> = sizes.clone().map(|met| met.n.to_string()).collect();
         let how = if kind.fault.is_some() {
             "by little"
