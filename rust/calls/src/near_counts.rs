@@ -229,61 +229,64 @@ fn ends() -> Vec<Kind> {
                     .map(|below| with_q_beyond(ring, 1, below))
                     .into()
             },
-            |ring| ring.token.q.abs() <= with_q_beyond(ring, 1, false).token.q,
+            |ring| {
+                let mut nearer = ring.clone();
+                nearer.token.q -= ring.token.q.signum();
+                nearer.is_sound()
+            },
         ),
     ]
 }
 
 /// Something in a place that no node uses.
 fn unused() -> Vec<Kind> {
-    let active = "an unused place active".to_owned();
-    let black = "an unused place black".to_owned();
-    let shared = "a black place in the byte that nodes share with unused places".to_owned();
+    let flag = |name: &str, nodes, places, change: fn(&mut Ring, usize, &mut Rng)| {
+        in_each(name.to_owned(), nodes, places, change, is_sound_emptied)
+    };
+    let shared = "a black place in the byte that nodes share with unused places";
+    let blacken = |ring: &mut Ring, place, _: &mut Rng| ring.set_black(place, true);
     let flags = [
-        in_each(
-            active,
-            (WITH_UNUSED, unused_places),
+        flag(
+            "an unused place active",
+            WITH_UNUSED,
+            unused_places,
             |ring, place, _| ring.active[place] = true,
-            is_sound_emptied,
         ),
-        in_each(
-            black,
-            (WITH_UNUSED, unused_places),
-            |ring, place, _| ring.set_black(place, true),
-            is_sound_emptied,
-        ),
-        in_each(
-            shared,
-            (SHARING, sharing_places),
-            |ring, place, _| ring.set_black(place, true),
-            is_sound_emptied,
-        ),
+        flag("an unused place black", WITH_UNUSED, unused_places, blacken),
+        flag(shared, SHARING, sharing_places, blacken),
     ];
-    let counts = COLUMNS.iter().enumerate().flat_map(|(k, name)| {
-        let nodes = format!("{name} in an unused place, the totals of the nodes right");
-        let all = format!("{name} in an unused place, the totals of all places right");
-        [
-            in_each(
-                nodes,
-                (WITH_UNUSED, unused_places),
-                move |ring, place, random| column(ring, k)[place] = some(random),
-                is_sound_emptied,
-            ),
-            in_each(
-                all,
-                (WITH_UNUSED, unused_places),
-                move |ring, place, random| in_balance(ring, k, place, random),
-                |ring| agree(totals(ring, |_, _| true), SEND_LIMIT),
-            ),
-        ]
-    });
+    let counts = (0..COLUMNS.len()).flat_map(unused_counts);
     flags.into_iter().chain(counts).collect()
 }
+
+fn unused_counts(k: usize) -> [Kind; 2] {
+    let name = COLUMNS[k];
+    [
+        in_each(
+            format!("{name} in an unused place, the totals of the nodes right"),
+            WITH_UNUSED,
+            unused_places,
+            move |ring, place, random| column(ring, k)[place] = some(random),
+            is_sound_emptied,
+        ),
+        in_each(
+            format!("{name} in an unused place, the totals of all places right"),
+            WITH_UNUSED,
+            unused_places,
+            move |ring, place, random| in_balance(ring, k, place, random),
+            |ring| agree(totals(ring, |_, _| true), SEND_LIMIT),
+        ),
+    ]
+}
+
+/// Some unused places of a ring of so many nodes.
+type Places = fn(usize) -> Vec<usize>;
 
 /// One near miss for each of some unused places.
 fn in_each(
     name: String,
-    (nodes, places): (Nodes, fn(usize) -> Vec<usize>),
+    nodes: Nodes,
+    places: Places,
     change: impl Fn(&mut Ring, usize, &mut Rng) + 'static,
     fault: Fault,
 ) -> Kind {

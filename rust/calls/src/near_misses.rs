@@ -75,7 +75,7 @@ impl Kind {
         matches!(self.base, Base::Closed)
     }
 
-    /// Such rings with the token at `pos`, each let through by the fault.
+    /// Such rings for node `pos`, which has the token but in closed ones; each is let through by the fault.
     pub fn at(&self, n: usize, pos: usize, random: &mut Rng) -> Vec<Ring> {
         if !(self.nodes)(n) || (self.is_of_safra() && pos + 1 == n) {
             return Vec::new();
@@ -125,17 +125,17 @@ const COLORS_AND_SUMS: [(&str, Change, Fault); 8] = [
             let next = ring.token.pos + 1;
             blacken_only(ring, next..next + 1);
         },
-        |ring| ring.is_black(ring.token.pos + 1),
+        |ring| are_black_alone(ring, 0..ring.token.pos + 2, 1),
     ),
     (
         "the one black node N - 1",
         |ring, _| blacken_only(ring, ring.n - 1..ring.n),
-        |ring| ring.is_black(ring.n - 1),
+        |ring| are_black_alone(ring, 0..ring.n, 1),
     ),
     (
         "all nodes above the token black, none else",
         |ring, _| blacken_only(ring, ring.token.pos + 1..ring.n),
-        |ring| (ring.token.pos + 1..ring.n).all(|i| ring.is_black(i)),
+        |ring| are_black_alone(ring, above(ring), above(ring).len()),
     ),
     (
         "a sum of 0",
@@ -280,6 +280,11 @@ const CLOSED: [(Nodes, (&str, Change, Fault)); 5] = [
         ),
     ),
 ];
+
+/// Whether so many of the nodes that are looked at are black, and no other.
+fn are_black_alone(ring: &Ring, looked_at: Range<usize>, count: usize) -> bool {
+    looked_at.filter(|&i| ring.is_black(i)).count() == count && ring.black_nodes() as usize == count
+}
 
 fn above(ring: &Ring) -> Range<usize> {
     ring.token.pos + 1..ring.n

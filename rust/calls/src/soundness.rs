@@ -186,7 +186,6 @@ impl Met {
                 calls.expect(false, &kind.name, &ring, random);
                 *count += 1;
                 if kind.is_of_safra() {
-                    assert_eq!(four(&ring), [false; 4], "{}", kind.name);
                     ring.token.black = true;
                     calls.expect(true, &kind.name, &ring, random);
                 }
