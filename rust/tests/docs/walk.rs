@@ -48,6 +48,11 @@ fn words(text: &str) -> impl Iterator<Item = &str> {
     text.split(|c: char| !c.is_alphanumeric() && c != '_')
 }
 
+fn loops(body: &str) -> usize {
+    let is_loop = |word: &&str| ["while", "for", "loop"].contains(word);
+    words(body).filter(is_loop).count()
+}
+
 /// What follows a function's parameters and contract, to its end; `lines` begins with the function.
 fn body(lines: &[&str]) -> String {
     let indent = lines[0].len() - lines[0].trim_start().len();
@@ -128,7 +133,7 @@ impl Runs<'_> {
     }
 
     fn has_loop(&self, name: &str) -> bool {
-        words(&self.bodies[name]).any(|word| ["while", "for", "loop"].contains(&word))
+        loops(&self.bodies[name]) > 0
     }
 
     /// The three loops are as they are known, run once, and none of them is in another.
@@ -142,8 +147,7 @@ impl Runs<'_> {
         for (name, parts) in LOOPS {
             let body = &self.bodies[name];
             let once = |part: &str| body.matches(part).count() == 1;
-            let loops = words(body).filter(|word| ["while", "for", "loop"].contains(word));
-            if !parts.iter().all(|part| once(part)) || loops.count() != 1 {
+            if !parts.iter().all(|part| once(part)) || loops(body) != 1 {
                 self.faults.push(format!("{name} has another loop"));
                 return;
             }
