@@ -133,7 +133,8 @@ static void ring_steps(struct muzserlik_ring *ring)
         CHECK(ring_refusal(ring, unknown[k], 0, 1) == MUZSERLIK_REFUSED_UNKNOWN_KIND);
     CHECK(ring_refusal(ring, MUZSERLIK_SEND, 0, 3) == MUZSERLIK_REFUSED_UNKNOWN_NODE);
     CHECK(ring_refusal(ring, MUZSERLIK_SEND, (size_t)-1, 0) == MUZSERLIK_REFUSED_UNKNOWN_NODE);
-    CHECK(ring_refusal(ring, MUZSERLIK_SEND, 2, 2) == MUZSERLIK_REFUSED_SELF_MESSAGE);
+    CHECK(ring_refusal(ring, MUZSERLIK_SEND, 2, 2) == MUZSERLIK_REFUSED_RULE_FAILS);
+    CHECK(ring_refusal(ring, MUZSERLIK_SEND, 3, 3) == MUZSERLIK_REFUSED_UNKNOWN_NODE);
     CHECK(ring_refusal(ring, MUZSERLIK_SEND, 2, 0) == MUZSERLIK_REFUSED_RULE_FAILS);
     CHECK(ring_refusal(ring, MUZSERLIK_PASS, 1, 0) == MUZSERLIK_REFUSED_RULE_FAILS);
 }
@@ -232,6 +233,52 @@ static void ring_takes(struct muzserlik_ring *ring)
     CHECK(same_rings(ring, &all) && muzserlik_ring_is_sound(ring) == 1);
 }
 
+/* Node 2 sends two messages to itself and takes one of them; nodes that are passive send none. */
+static void ring_to_oneself(struct muzserlik_ring *ring)
+{
+    const uint8_t flags[] = {1, 0, 1};
+    CHECK(muzserlik_ring_start(ring, 3, flags, 3) == MUZSERLIK_ACCEPTED);
+    CHECK(muzserlik_ring_step(ring, MUZSERLIK_SEND, 2, 2) == MUZSERLIK_ACCEPTED);
+    const struct muzserlik_ring sent = {
+        .n = 3, .active = {1, 0, 1}, .sent = {0, 0, 1}, .pending = {0, 0, 1}, .black = 1};
+    CHECK(same_rings(ring, &sent) && muzserlik_ring_is_sound(ring) == 1);
+    CHECK(ring_refusal(ring, MUZSERLIK_SEND, 1, 1) == MUZSERLIK_REFUSED_RULE_FAILS);
+    CHECK(ring_refusal(ring, MUZSERLIK_SEND, (size_t)-1, (size_t)-1) == MUZSERLIK_REFUSED_UNKNOWN_NODE);
+    CHECK(muzserlik_ring_step(ring, MUZSERLIK_SEND, 2, 2) == MUZSERLIK_ACCEPTED);
+    CHECK(muzserlik_ring_step(ring, MUZSERLIK_TAKE, 2, 1) == MUZSERLIK_ACCEPTED);
+    CHECK(muzserlik_ring_step(ring, MUZSERLIK_IDLE, 2, 99) == MUZSERLIK_ACCEPTED);
+    const struct muzserlik_ring taken = {
+        .n = 3, .active = {1, 0, 0}, .color = {4}, .sent = {0, 0, 2}, .received = {0, 0, 1}, .pending = {0, 0, 1}, .black = 1};
+    CHECK(same_rings(ring, &taken) && muzserlik_ring_is_sound(ring) == 1);
+    CHECK(ring_refusal(ring, MUZSERLIK_SEND, 2, 2) == MUZSERLIK_REFUSED_RULE_FAILS);
+}
+
+/* The one node's message to itself keeps the sum above 0, so that the token goes on; once it is taken and the node passive, one probe is enough. */
+static void ring_of_one(struct muzserlik_ring *ring)
+{
+    const uint8_t flags[] = {1};
+    uint32_t moves = 77;
+    CHECK(muzserlik_ring_start(ring, 1, flags, 1) == MUZSERLIK_ACCEPTED);
+    CHECK(muzserlik_ring_step(ring, MUZSERLIK_SEND, 0, 0) == MUZSERLIK_ACCEPTED);
+    const struct muzserlik_ring sent = {.n = 1, .active = {1}, .sent = {1}, .pending = {1}, .black = 1};
+    CHECK(same_rings(ring, &sent) && muzserlik_ring_is_sound(ring) == 1);
+    CHECK(muzserlik_ring_drive(ring, 3, &moves) == MUZSERLIK_SPENT && moves == 3);
+    const struct muzserlik_ring driven = {.n = 1, .active = {1}, .sent = {1}, .pending = {1}};
+    CHECK(same_rings(ring, &driven) && muzserlik_ring_is_sound(ring) == 1);
+    CHECK(ring_refusal(ring, MUZSERLIK_ANNOUNCE, 0, 0) == MUZSERLIK_REFUSED_RULE_FAILS);
+    CHECK(muzserlik_ring_step(ring, MUZSERLIK_TAKE, 0, 1) == MUZSERLIK_ACCEPTED);
+    CHECK(muzserlik_ring_step(ring, MUZSERLIK_IDLE, 0, 0) == MUZSERLIK_ACCEPTED);
+    const struct muzserlik_ring quiet = {.n = 1, .color = {1}, .sent = {1}, .received = {1}};
+    CHECK(same_rings(ring, &quiet) && muzserlik_ring_is_sound(ring) == 1);
+    CHECK(ring_refusal(ring, MUZSERLIK_ANNOUNCE, 0, 0) == MUZSERLIK_REFUSED_RULE_FAILS);
+    CHECK(ring_refusal(ring, MUZSERLIK_SEND, 0, 0) == MUZSERLIK_REFUSED_RULE_FAILS);
+    CHECK(muzserlik_ring_drive(ring, MUZSERLIK_MOVE_LIMIT, &moves) == MUZSERLIK_CONCLUSIVE && moves == 1);
+    CHECK(ring_refusal(ring, MUZSERLIK_PROBE, 0, 0) == MUZSERLIK_REFUSED_RULE_FAILS);
+    CHECK(muzserlik_ring_step(ring, MUZSERLIK_ANNOUNCE, 0, 0) == MUZSERLIK_ACCEPTED);
+    const struct muzserlik_ring last = {.n = 1, .sent = {1}, .received = {1}, .closed = 1};
+    CHECK(same_rings(ring, &last) && ring_refusal(ring, MUZSERLIK_SEND, 0, 0) == MUZSERLIK_REFUSED_CLOSED);
+}
+
 /* Sound by the first of Safra's four alone, by none, by the last alone: q and black decide. */
 static void ring_clauses(struct muzserlik_ring *ring)
 {
@@ -253,6 +300,8 @@ static void ring_limit(struct muzserlik_ring *ring)
     ring->sent[0] = MUZSERLIK_SEND_LIMIT;
     ring->received[1] = MUZSERLIK_SEND_LIMIT;
     CHECK(ring_refusal(ring, MUZSERLIK_SEND, 0, 1) == MUZSERLIK_REFUSED_SEND_LIMIT);
+    CHECK(ring_refusal(ring, MUZSERLIK_SEND, 0, 0) == MUZSERLIK_REFUSED_SEND_LIMIT);
+    CHECK(ring_refusal(ring, MUZSERLIK_SEND, 1, 1) == MUZSERLIK_REFUSED_RULE_FAILS);
 }
 
 static void tree_starts(struct muzserlik_tree *tree)
@@ -294,11 +343,13 @@ static void tree_steps(struct muzserlik_tree *tree)
     for (size_t k = 0; k < sizeof unknown / sizeof unknown[0]; k++)
         CHECK(tree_refusal(tree, unknown[k], 1, 0) == MUZSERLIK_REFUSED_UNKNOWN_KIND);
     CHECK(tree_refusal(tree, MUZSERLIK_TAKE, 0, 3) == MUZSERLIK_REFUSED_UNKNOWN_NODE);
-    CHECK(tree_refusal(tree, MUZSERLIK_SEND, 1, 1) == MUZSERLIK_REFUSED_SELF_MESSAGE);
+    CHECK(tree_refusal(tree, MUZSERLIK_SEND, 3, 3) == MUZSERLIK_REFUSED_UNKNOWN_NODE);
+    CHECK(tree_refusal(tree, MUZSERLIK_TAKE, 1, 1) == MUZSERLIK_REFUSED_RULE_FAILS);
     CHECK(tree_refusal(tree, MUZSERLIK_ACK, 2, 0) == MUZSERLIK_REFUSED_RULE_FAILS);
     tree->sends = MUZSERLIK_SEND_LIMIT;
     CHECK(muzserlik_tree_is_sound(tree) == 1);
     CHECK(tree_refusal(tree, MUZSERLIK_SEND, 1, 0) == MUZSERLIK_REFUSED_SEND_LIMIT);
+    CHECK(tree_refusal(tree, MUZSERLIK_SEND, 1, 1) == MUZSERLIK_REFUSED_SEND_LIMIT);
     tree->sends = 4;
 }
 
@@ -346,6 +397,102 @@ static void tree_ends(struct muzserlik_tree *tree)
     CHECK(tree->closed == 1 && tree_refusal(tree, MUZSERLIK_ACK, 1, 0) == MUZSERLIK_REFUSED_CLOSED);
 }
 
+/* The root 1 engages 2, which sends to itself and takes it: it is engaged already, so it acknowledges itself. 0 is not engaged. */
+static void tree_to_oneself(struct muzserlik_tree *tree)
+{
+    CHECK(muzserlik_tree_start(tree, 3, 1) == MUZSERLIK_ACCEPTED);
+    CHECK(tree_refusal(tree, MUZSERLIK_SEND, 2, 2) == MUZSERLIK_REFUSED_RULE_FAILS);
+    CHECK(muzserlik_tree_step(tree, MUZSERLIK_SEND, 1, 2) == MUZSERLIK_ACCEPTED);
+    CHECK(muzserlik_tree_step(tree, MUZSERLIK_TAKE, 2, 1) == MUZSERLIK_ACCEPTED);
+    CHECK(muzserlik_tree_step(tree, MUZSERLIK_SEND, 2, 2) == MUZSERLIK_ACCEPTED);
+    struct muzserlik_tree now = {.n = 3, .root = 1, .active = {0, 1, 1}, .unacked = {0, 1, 1}, .sends = 2};
+    memset(now.engager, MUZSERLIK_TREE_NONE, sizeof now.engager);
+    now.engager[1] = 1;
+    now.engager[2] = 1;
+    now.transit[16 * 2 + 2] = 1;
+    CHECK(same_trees(tree, &now) && muzserlik_tree_is_sound(tree) == 1);
+    CHECK(tree_refusal(tree, MUZSERLIK_SEND, 0, 0) == MUZSERLIK_REFUSED_RULE_FAILS);
+    CHECK(muzserlik_tree_step(tree, MUZSERLIK_IDLE, 2, 0) == MUZSERLIK_ACCEPTED);
+    CHECK(tree_refusal(tree, MUZSERLIK_LEAVE, 2, 0) == MUZSERLIK_REFUSED_RULE_FAILS);
+    CHECK(muzserlik_tree_step(tree, MUZSERLIK_TAKE, 2, 2) == MUZSERLIK_ACCEPTED);
+    now.transit[16 * 2 + 2] = 0;
+    now.acks[2] = 1;
+    CHECK(same_trees(tree, &now) && muzserlik_tree_is_sound(tree) == 1);
+    CHECK(muzserlik_tree_step(tree, MUZSERLIK_IDLE, 2, 0) == MUZSERLIK_ACCEPTED);
+    CHECK(tree_refusal(tree, MUZSERLIK_LEAVE, 2, 0) == MUZSERLIK_REFUSED_RULE_FAILS);
+    CHECK(muzserlik_tree_step(tree, MUZSERLIK_ACK, 2, 0) == MUZSERLIK_ACCEPTED);
+    CHECK(muzserlik_tree_step(tree, MUZSERLIK_LEAVE, 2, 0) == MUZSERLIK_ACCEPTED);
+    now.active[2] = 0;
+    now.engager[2] = MUZSERLIK_TREE_NONE;
+    now.unacked[2] = 0;
+    now.acks[1] = 1;
+    now.acks[2] = 0;
+    CHECK(same_trees(tree, &now) && muzserlik_tree_is_sound(tree) == 1);
+}
+
+/* Whether a tree is sound with so many messages of a node to itself, and so many unacknowledged; and that it is else refused with 3. */
+static int sound_with_own(const struct muzserlik_tree *tree, size_t i, uint32_t messages, uint32_t unacked)
+{
+    struct muzserlik_tree changed = *tree;
+    changed.transit[16 * i + i] = messages;
+    changed.unacked[i] = unacked;
+    int sound = muzserlik_tree_is_sound(&changed);
+    if (!sound)
+        CHECK(tree_refusal(&changed, MUZSERLIK_TAKE, i, i) == MUZSERLIK_REFUSED_UNSOUND);
+    return sound;
+}
+
+/* Filled by hand: the root 1 engaged 2, and each may hold messages to itself; 0 is not engaged, and there is no node 3 nor 15. */
+static void tree_own_by_hand(struct muzserlik_tree *tree)
+{
+    CHECK(muzserlik_tree_start(tree, 3, 1) == MUZSERLIK_ACCEPTED);
+    tree->engager[2] = 1;
+    tree->unacked[1] = 1;
+    tree->sends = 9;
+    CHECK(muzserlik_tree_is_sound(tree) == 1);
+    CHECK(sound_with_own(tree, 1, 2, 3) == 1 && sound_with_own(tree, 2, 2, 2) == 1);
+    /* not counted, one too few, one too many, counted twice */
+    CHECK(sound_with_own(tree, 1, 2, 1) == 0 && sound_with_own(tree, 2, 2, 0) == 0);
+    CHECK(sound_with_own(tree, 1, 2, 2) == 0 && sound_with_own(tree, 2, 2, 1) == 0);
+    CHECK(sound_with_own(tree, 1, 2, 4) == 0 && sound_with_own(tree, 2, 2, 3) == 0);
+    CHECK(sound_with_own(tree, 1, 2, 5) == 0 && sound_with_own(tree, 2, 2, 4) == 0);
+    /* with the root's one more, nine are unacknowledged with eight and ten with nine */
+    CHECK(sound_with_own(tree, 2, 8, 8) == 1 && sound_with_own(tree, 2, 9, 9) == 0);
+    const size_t none[] = {0, 3, 15};
+    for (size_t k = 0; k < sizeof none / sizeof none[0]; k++)
+        CHECK(sound_with_own(tree, none[k], 1, 0) == 0 && sound_with_own(tree, none[k], 1, 1) == 0);
+}
+
+/* The root alone sends to itself, takes it and has its acknowledgement, before it is passive or after; then it announces. */
+static void tree_of_one(struct muzserlik_tree *tree)
+{
+    const size_t orders[][2] = {{MUZSERLIK_ACK, MUZSERLIK_IDLE}, {MUZSERLIK_IDLE, MUZSERLIK_ACK}};
+    for (size_t k = 0; k < 2; k++) {
+        CHECK(muzserlik_tree_start(tree, 1, 0) == MUZSERLIK_ACCEPTED);
+        CHECK(muzserlik_tree_step(tree, MUZSERLIK_SEND, 0, 0) == MUZSERLIK_ACCEPTED);
+        struct muzserlik_tree now = {.n = 1, .root = 0, .active = {1}, .unacked = {1}, .transit = {1}, .sends = 1};
+        memset(now.engager, MUZSERLIK_TREE_NONE, sizeof now.engager);
+        now.engager[0] = 0;
+        CHECK(same_trees(tree, &now) && muzserlik_tree_is_sound(tree) == 1);
+        CHECK(muzserlik_tree_step(tree, MUZSERLIK_TAKE, 0, 0) == MUZSERLIK_ACCEPTED);
+        now.transit[0] = 0;
+        now.acks[0] = 1;
+        CHECK(same_trees(tree, &now) && muzserlik_tree_is_sound(tree) == 1);
+        CHECK(tree_refusal(tree, MUZSERLIK_TAKE, 0, 0) == MUZSERLIK_REFUSED_RULE_FAILS);
+        CHECK(muzserlik_tree_step(tree, orders[k][0], 0, 0) == MUZSERLIK_ACCEPTED);
+        CHECK(tree_refusal(tree, MUZSERLIK_ANNOUNCE, 0, 0) == MUZSERLIK_REFUSED_RULE_FAILS);
+        CHECK(muzserlik_tree_step(tree, orders[k][1], 0, 0) == MUZSERLIK_ACCEPTED);
+        CHECK(tree_refusal(tree, MUZSERLIK_LEAVE, 0, 0) == MUZSERLIK_REFUSED_RULE_FAILS);
+        CHECK(tree_refusal(tree, MUZSERLIK_SEND, 0, 0) == MUZSERLIK_REFUSED_RULE_FAILS);
+        CHECK(muzserlik_tree_step(tree, MUZSERLIK_ANNOUNCE, 0, 0) == MUZSERLIK_ACCEPTED);
+        now.active[0] = 0;
+        now.unacked[0] = 0;
+        now.acks[0] = 0;
+        now.closed = 1;
+        CHECK(same_trees(tree, &now) && tree_refusal(tree, MUZSERLIK_SEND, 0, 0) == MUZSERLIK_REFUSED_CLOSED);
+    }
+}
+
 /* Each of 16 nodes engages the next one: no text is longer. */
 static void tree_longest(struct muzserlik_tree *tree)
 {
@@ -376,6 +523,8 @@ int main(void)
     ring_drives(&ring);
     ring_by_hand(&ring);
     ring_takes(&ring);
+    ring_to_oneself(&ring);
+    ring_of_one(&ring);
     ring_clauses(&ring);
     ring_limit(&ring);
     struct muzserlik_tree tree;
@@ -383,6 +532,9 @@ int main(void)
     tree_steps(&tree);
     tree_texts(&tree);
     tree_ends(&tree);
+    tree_to_oneself(&tree);
+    tree_own_by_hand(&tree);
+    tree_of_one(&tree);
     tree_longest(&tree);
     printf("calls from C: %d checks\n", checks);
     return EXIT_SUCCESS;

@@ -81,8 +81,7 @@ enum muzserlik_answer {
     MUZSERLIK_REFUSED_UNKNOWN_KIND = 5,
     /* a node number that is used is n or more; in reading, one in the text */
     MUZSERLIK_REFUSED_UNKNOWN_NODE = 6,
-    /* a send from a node to itself */
-    MUZSERLIK_REFUSED_SELF_MESSAGE = 7,
+    /* 7 is retired: a send from a node to itself was refused with it before change request Q-4. The number is given to nothing else */
     /* the step's rule does not hold: the step is not possible now */
     MUZSERLIK_REFUSED_RULE_FAILS = 8,
     /* a send after 1,000,000 accepted ones; in a table, of the started updates together, closed ones too, each since its latest start */
@@ -106,7 +105,7 @@ enum muzserlik_answer {
  * does not use are not read. The rule that has to hold, else 8, and what becomes of the state:
  *
  *   a ring; the counter of a node is what it sent less what it received
- *   SEND i j   i is active: one more message is on its way to j
+ *   SEND i j   i is active: one more message is on its way to j, which may be i itself
  *   TAKE i j   j is 1 to 1,000, and at least j messages are on their way to i: i receives j of them, and becomes active and black. Here j is how many
  *              messages are taken, not a node: whatever it is, it is not refused with 6
  *   IDLE i     i is active: it becomes passive
@@ -118,9 +117,9 @@ enum muzserlik_answer {
  *              way to it. Then, by the accepted steps, every node is passive and no message is in transit (proved); the run is closed
  *
  *   a tree
- *   SEND i j   i is active: one more message is on its way from i to j, and one more of i is not acknowledged
+ *   SEND i j   i is active: one more message is on its way from i to j, which may be i itself, and one more of i is not acknowledged
  *   TAKE i j   a message from j is on its way to i: i receives it and becomes active. If i was not engaged, j is its engager; else an
- *              acknowledgement sets out to j
+ *              acknowledgement sets out to j. A node that has a message of its own on its way is engaged: it acknowledges itself
  *   IDLE i     i is active: it becomes passive
  *   ACK i      an acknowledgement is on its way to i: i receives it, and one less of i is not acknowledged
  *   LEAVE i    i is not the root, is engaged and passive, and all that it sent is acknowledged: an acknowledgement sets out to its engager, and i is
@@ -234,8 +233,8 @@ static inline int muzserlik_ring_start(struct muzserlik_ring *ring, size_t n, co
 
 /*
  * One step (enum muzserlik_kind); a number that its kind does not use is not read. TAKE reads j as how many messages it takes, 1 to 1,000, else 8: a
- * call that takes one message says 1, and one that leaves j 0, as it could before TAKE read it, is refused with 8 now. 0, or 3 to 9 with the ring as
- * it was.
+ * call that takes one message says 1, and one that leaves j 0, as it could before TAKE read it, is refused with 8 now. 0, or 3 to 6, 8 or 9 with the
+ * ring as it was.
  */
 static inline int muzserlik_ring_step(struct muzserlik_ring *ring, size_t kind, size_t i, size_t j)
 {
@@ -284,7 +283,7 @@ static inline int muzserlik_table_start(struct muzserlik_table *table, size_t up
 
 /*
  * One step of a ring, of an update; so TAKE reads j as how many messages it takes, 1 to 1,000, else 8, and one that leaves j 0 is refused with 8 now.
- * 0, and no other update's places are written to; 3, 13, or 4 to 9 with the table as it was.
+ * 0, and no other update's places are written to; 3, 13, 4 to 6, 8 or 9 with the table as it was.
  */
 static inline int muzserlik_table_step(struct muzserlik_table *table, size_t update, size_t kind, size_t i, size_t j)
 {
@@ -308,7 +307,7 @@ static inline int muzserlik_tree_start(struct muzserlik_tree *tree, size_t n, si
                                        &tree->sends, &tree->closed);
 }
 
-/* One step (enum muzserlik_kind); a number that its kind does not use is not read. 0, or 3 to 9 with the tree as it was. */
+/* One step (enum muzserlik_kind); a number that its kind does not use is not read. 0, or 3 to 6, 8 or 9 with the tree as it was. */
 static inline int muzserlik_tree_step(struct muzserlik_tree *tree, size_t kind, size_t i, size_t j)
 {
     return muzserlik_tree_step_fields(tree->n, tree->root, tree->active, tree->engager, tree->unacked, tree->transit, tree->acks,

@@ -146,12 +146,32 @@ static void steps(struct muzserlik_table *table)
     CHECK(step_refusal(table, 0, MUZSERLIK_SEND, 0, 1) == MUZSERLIK_REFUSED_UNKNOWN_UPDATE);
     CHECK(step_refusal(table, 7, MUZSERLIK_SEND, 0, 3) == MUZSERLIK_REFUSED_UNKNOWN_NODE);
     CHECK(step_refusal(table, 7, MUZSERLIK_TAKE, (size_t)-1, 0) == MUZSERLIK_REFUSED_UNKNOWN_NODE);
-    CHECK(step_refusal(table, 7, MUZSERLIK_SEND, 1, 1) == MUZSERLIK_REFUSED_SELF_MESSAGE);
     /* refused, and once the node is active the same step again */
     CHECK(step_refusal(table, 7, MUZSERLIK_SEND, 2, 0) == MUZSERLIK_REFUSED_RULE_FAILS);
     CHECK(muzserlik_table_step(table, 7, MUZSERLIK_SEND, 0, 2) == MUZSERLIK_ACCEPTED);
     CHECK(muzserlik_table_step(table, 7, MUZSERLIK_TAKE, 2, 1) == MUZSERLIK_ACCEPTED);
     CHECK(muzserlik_table_step(table, 7, MUZSERLIK_SEND, 2, 0) == MUZSERLIK_ACCEPTED);
+}
+
+/* Of update 7 every node is active and sends to itself, node 2 once more as soon as it is passive: refused. Update 2 has no active node. */
+static void to_oneself(struct muzserlik_table *table)
+{
+    struct muzserlik_table now = *table;
+    for (size_t i = 0; i < 3; i++) {
+        CHECK(step_refusal(table, 2, MUZSERLIK_SEND, i, i) == MUZSERLIK_REFUSED_RULE_FAILS);
+        CHECK(step_refusal(table, 0, MUZSERLIK_SEND, i, i) == MUZSERLIK_REFUSED_UNKNOWN_UPDATE);
+        CHECK(muzserlik_table_step(table, 7, MUZSERLIK_SEND, i, i) == MUZSERLIK_ACCEPTED);
+        now.sent[7][i]++;
+        now.pending[7][i]++;
+        CHECK(same_tables(table, &now) && muzserlik_table_is_sound(table) == 1);
+    }
+    CHECK(step_refusal(table, 7, MUZSERLIK_SEND, 3, 3) == MUZSERLIK_REFUSED_UNKNOWN_NODE);
+    CHECK(muzserlik_table_step(table, 7, MUZSERLIK_IDLE, 2, 0) == MUZSERLIK_ACCEPTED);
+    CHECK(step_refusal(table, 7, MUZSERLIK_SEND, 2, 2) == MUZSERLIK_REFUSED_RULE_FAILS);
+    CHECK(muzserlik_table_step(table, 7, MUZSERLIK_TAKE, 2, 1) == MUZSERLIK_ACCEPTED);
+    now.received[7][2]++;
+    now.pending[7][2]--;
+    CHECK(same_tables(table, &now) && muzserlik_table_is_sound(table) == 1);
 }
 
 /* A byte above 1 where a truth of a started update belongs is 3, before 13 and 1; mended, the same call is answered as before. */
@@ -239,6 +259,30 @@ static void takes(struct muzserlik_table *table)
     CHECK(same_tables(table, &now) && muzserlik_table_is_sound(table) == 1);
 }
 
+/* Updates of one node: that of update 4 takes its own message and is announced, while that of update 1 has one on its way. */
+static void one_node(struct muzserlik_table *table)
+{
+    const uint8_t flags[] = {1};
+    const struct {
+        size_t kind, j;
+    } steps[] = {{MUZSERLIK_SEND, 0}, {MUZSERLIK_TAKE, 1}, {MUZSERLIK_IDLE, 0}, {MUZSERLIK_PROBE, 0}, {MUZSERLIK_ANNOUNCE, 0}};
+    struct muzserlik_table now = noise();
+    *table = now;
+    CHECK(muzserlik_table_start(table, 1, 1, flags, 1) == MUZSERLIK_ACCEPTED);
+    CHECK(muzserlik_table_step(table, 1, MUZSERLIK_SEND, 0, 0) == MUZSERLIK_ACCEPTED);
+    CHECK(muzserlik_table_start(table, 4, 1, flags, 1) == MUZSERLIK_ACCEPTED);
+    for (size_t k = 0; k < sizeof steps / sizeof steps[0]; k++) {
+        CHECK(step_refusal(table, 1, MUZSERLIK_ANNOUNCE, 0, 0) == MUZSERLIK_REFUSED_RULE_FAILS);
+        CHECK(muzserlik_table_step(table, 4, steps[k].kind, 0, steps[k].j) == MUZSERLIK_ACCEPTED);
+        CHECK(muzserlik_table_is_sound(table) == 1);
+    }
+    const struct muzserlik_ring open = {.n = 1, .active = {1}, .sent = {1}, .pending = {1}, .black = 1};
+    const struct muzserlik_ring closed = {.n = 1, .sent = {1}, .received = {1}, .closed = 1};
+    put(&now, 1, &open);
+    put(&now, 4, &closed);
+    CHECK(same_tables(table, &now));
+}
+
 /* Two updates with 999,999 sends between them: one more is accepted, of either; then 9 to both, until one of them is started afresh. */
 static void limit(struct muzserlik_table *table)
 {
@@ -256,7 +300,7 @@ static void limit(struct muzserlik_table *table)
     CHECK(same_tables(table, &now) && muzserlik_table_is_sound(table) == 1);
     CHECK(step_refusal(table, 0, MUZSERLIK_SEND, 0, 1) == MUZSERLIK_REFUSED_SEND_LIMIT);
     CHECK(step_refusal(table, 6, MUZSERLIK_SEND, 0, 1) == MUZSERLIK_REFUSED_SEND_LIMIT);
-    CHECK(step_refusal(table, 6, MUZSERLIK_SEND, 0, 0) == MUZSERLIK_REFUSED_SELF_MESSAGE);
+    CHECK(step_refusal(table, 6, MUZSERLIK_SEND, 0, 0) == MUZSERLIK_REFUSED_SEND_LIMIT);
     CHECK(muzserlik_table_step(table, 6, MUZSERLIK_TAKE, 0, 1) == MUZSERLIK_ACCEPTED);
     CHECK(muzserlik_table_start(table, 1, 2, flags, 2) == MUZSERLIK_ACCEPTED);
     CHECK(step_refusal(table, 1, MUZSERLIK_SEND, 0, 1) == MUZSERLIK_REFUSED_SEND_LIMIT);
@@ -285,7 +329,7 @@ static void beside_rings(struct muzserlik_table *table)
 {
     struct muzserlik_ring rings[MUZSERLIK_UPDATES];
     struct muzserlik_table now = noise();
-    int told[14] = {0};
+    int told[14] = {0}, own = 0;
     memset(rings, 0, sizeof rings);
     *table = now;
     for (int k = 0; k < 20000; k++) {
@@ -300,6 +344,7 @@ static void beside_rings(struct muzserlik_table *table)
             if (u < MUZSERLIK_UPDATES && rings[u].n != 0)
                 expected = muzserlik_ring_step(&rings[u], kind, i, j);
             answer = muzserlik_table_step(table, u, kind, i, j);
+            own += expected == MUZSERLIK_ACCEPTED && kind == MUZSERLIK_SEND && i == j;
         }
         if (expected == MUZSERLIK_ACCEPTED)
             put(&now, u, &rings[u]);
@@ -307,8 +352,8 @@ static void beside_rings(struct muzserlik_table *table)
         CHECK(answer == expected && same_tables(table, &now));
     }
     for (int number = 4; number <= 8; number++)
-        CHECK(told[number] > 0);
-    CHECK(told[0] > 1000 && told[13] > 1000 && muzserlik_table_is_sound(table) == 1);
+        CHECK((told[number] > 0) == (number != 7));
+    CHECK(told[0] > 1000 && told[13] > 1000 && own > 40 && muzserlik_table_is_sound(table) == 1);
 }
 
 int main(void)
@@ -316,9 +361,11 @@ int main(void)
     struct muzserlik_table table;
     starts(&table);
     steps(&table);
+    to_oneself(&table);
     bytes(&table);
     ends(&table);
     takes(&table);
+    one_node(&table);
     limit(&table);
     beside_rings(&table);
     printf("calls from C on tables: %d checks\n", checks);

@@ -35,6 +35,20 @@ pub struct TakesAsked {
     pub widths: &'static [u32],
 }
 
+/// Messages that a node sends to itself.
+pub struct OwnAsked {
+    /// Sends accepted; refused with 8, since the node is passive; refused with 9, which no log meets.
+    pub sent: usize,
+    pub passive: usize,
+    pub limit: Option<usize>,
+    /// A tree's takes accepted, each of which acknowledges to the taker.
+    pub taken: Option<usize>,
+    /// On one node alone: sends, takes, and a ring's probes with a message on its way or a tree's acks, accepted.
+    pub alone: Option<usize>,
+    /// Announcements there after a send.
+    pub announced: Option<usize>,
+}
+
 /// What one detector's lines after the first have to meet, on all sizes or on the large ones.
 pub struct Met {
     /// Each kind of step but announce, accepted.
@@ -52,7 +66,7 @@ pub struct Met {
 
 /// Of the logs by seed.
 pub mod logs {
-    use super::{asked, ring, tree, Asked, Met, TakesAsked, LARGE_RINGS, LARGE_TREES};
+    use super::{asked, ring, tree, Asked, Met, OwnAsked, TakesAsked, LARGE_RINGS, LARGE_TREES};
 
     pub const ON_ALL: Met = Met {
         kind: 10_000,
@@ -86,16 +100,48 @@ pub mod logs {
         cut: 30,
         widths: &WIDTHS,
     };
+    pub const OWN_ON_RINGS: OwnAsked = OwnAsked {
+        sent: 10_000,
+        passive: 3_500,
+        limit: None,
+        taken: None,
+        alone: Some(500),
+        announced: Some(30),
+    };
+    pub const OWN_ON_LARGE_RINGS: OwnAsked = OwnAsked {
+        sent: 5_000,
+        passive: 2_000,
+        limit: None,
+        taken: None,
+        alone: None,
+        announced: None,
+    };
+    pub const OWN_ON_TREES: OwnAsked = OwnAsked {
+        sent: 5_000,
+        passive: 4_500,
+        limit: None,
+        taken: Some(5_000),
+        alone: Some(1_000),
+        announced: Some(20),
+    };
+    pub const OWN_ON_LARGE_TREES: OwnAsked = OwnAsked {
+        sent: 2_000,
+        passive: 2_500,
+        limit: None,
+        taken: Some(2_000),
+        alone: None,
+        announced: None,
+    };
     /// Each spelling of a take.
     pub const SPELLINGS: usize = 50;
     pub const ON_RINGS: [Asked; 4] = [
-        asked(1..=1, 50, 200),
+        asked(1..=1, 6_000, 1_000),
         asked(2..=8, 100_000, 20_000),
         asked(LARGE_RINGS, 150_000, 20_000),
         asked(ring::MAX_NODES..=ring::MAX_NODES, 60_000, 10_000),
     ];
     pub const ON_TREES: [Asked; 4] = [
-        asked(1..=1, 30, 200),
+        asked(1..=1, 4_000, 1_400),
         asked(2..=5, 50_000, 20_000),
         asked(LARGE_TREES, 70_000, 20_000),
         asked(tree::MAX_NODES..=tree::MAX_NODES, 25_000, 8_000),
@@ -118,7 +164,7 @@ pub mod logs {
 
 /// Of the logs of updates.
 pub mod updates {
-    use super::{asked, logs, Asked, TakesAsked, LARGE_RINGS};
+    use super::{asked, logs, Asked, OwnAsked, TakesAsked, LARGE_RINGS};
 
     pub const UNKNOWN_UPDATE: usize = 13;
     pub const NODE_COUNT: usize = 1;
@@ -126,7 +172,7 @@ pub mod updates {
     /// is not refused with 3, 5 or 9 for the reasons that hold of bare logs.
     pub const OF_FIRST: [usize; 4] = [1, 6, 10, 13];
     pub const OF_START: [usize; 3] = [1, 6, 13];
-    pub const OF_STEP: [usize; 5] = [4, 6, 7, 8, 13];
+    pub const OF_STEP: [usize; 4] = [4, 6, 8, 13];
     /// Logs, and accepted lines of them: one in so many at least; one in so many no form at most.
     pub const LOGS: usize = 500;
     pub const LINES: usize = 200_000;
@@ -153,6 +199,14 @@ pub mod updates {
         cut: 100,
         widths: &logs::WIDTHS,
     };
+    pub const OWN: OwnAsked = OwnAsked {
+        sent: 15_000,
+        passive: 4_500,
+        limit: None,
+        taken: None,
+        alone: Some(1_500),
+        announced: Some(300),
+    };
     /// Each spelling of a take.
     pub const SPELLINGS: usize = 50;
     /// Lines of the greatest length, and of a byte more.
@@ -163,7 +217,7 @@ pub mod updates {
 
 /// Of the calls on rings and on trees.
 pub mod calls {
-    use super::{asked, ring, tree, Asked, TakesAsked, LARGE_RINGS, LARGE_TREES};
+    use super::{asked, ring, tree, Asked, OwnAsked, TakesAsked, LARGE_RINGS, LARGE_TREES};
 
     /// Starts, and steps of runs.
     pub const STARTS: usize = 20_000;
@@ -183,14 +237,30 @@ pub mod calls {
         cut: 1_000,
         widths: &[8, 16, 32],
     };
+    pub const OWN_ON_RINGS: OwnAsked = OwnAsked {
+        sent: 6_000,
+        passive: 8_000,
+        limit: Some(2_000),
+        taken: None,
+        alone: Some(2_000),
+        announced: Some(150),
+    };
+    pub const OWN_ON_TREES: OwnAsked = OwnAsked {
+        sent: 10_000,
+        passive: 8_000,
+        limit: Some(3_500),
+        taken: Some(10_000),
+        alone: Some(7_500),
+        announced: Some(400),
+    };
     pub const ON_RINGS: [Asked; 4] = [
-        asked(1..=1, 800, 1_500),
+        asked(1..=1, 10_000, 7_000),
         asked(2..=8, 70_000, 40_000),
         asked(LARGE_RINGS, 120_000, 45_000),
         asked(ring::MAX_NODES..=ring::MAX_NODES, 50_000, 18_000),
     ];
     pub const ON_TREES: [Asked; 4] = [
-        asked(1..=1, 900, 2_000),
+        asked(1..=1, 25_000, 15_000),
         asked(2..=5, 70_000, 45_000),
         asked(LARGE_TREES, 100_000, 60_000),
         asked(tree::MAX_NODES..=tree::MAX_NODES, 35_000, 20_000),
@@ -203,7 +273,7 @@ pub mod calls {
 
 /// Of the calls on tables of updates.
 pub mod tables {
-    use super::{asked, ring, Asked, TakesAsked, LARGE_RINGS};
+    use super::{asked, ring, Asked, OwnAsked, TakesAsked, LARGE_RINGS};
 
     /// Steps of runs.
     pub const STEPS: usize = 300_000;
@@ -219,12 +289,20 @@ pub mod tables {
         cut: 500,
         widths: &[8, 16, 32],
     };
+    pub const OWN: OwnAsked = OwnAsked {
+        sent: 2_500,
+        passive: 3_500,
+        limit: Some(350),
+        taken: None,
+        alone: Some(1_000),
+        announced: Some(80),
+    };
     /// Accepted calls of each update.
     pub const OF_EACH: usize = 5_000;
     /// Different sizes.
     pub const SIZES: usize = 48;
     pub const ON_TABLES: [Asked; 4] = [
-        asked(1..=1, 500, 500),
+        asked(1..=1, 5_000, 3_000),
         asked(2..=8, 30_000, 10_000),
         asked(LARGE_RINGS, 30_000, 10_000),
         asked(ring::MAX_NODES..=ring::MAX_NODES, 10_000, 3_000),
@@ -248,6 +326,14 @@ pub mod soundness {
     pub const OF_EACH: usize = 10_000;
 }
 
+/// Of the calls on trees that hold messages of nodes to themselves.
+pub mod own_trees {
+    /// Sound ones of each sort and near misses of each kind: in all, of one node where there are such, and of large trees.
+    pub const OF_EACH: usize = 6_000;
+    pub const ON_ONE: usize = 1_000;
+    pub const ON_LARGE: usize = 2_500;
+}
+
 /// The numbers that each call answers: each has to be met, and no other.
 pub mod answers {
     pub const RING_START: [usize; 3] = [0, 1, 2];
@@ -257,13 +343,13 @@ pub mod answers {
     pub const TREE_WRITE: [usize; 3] = [0, 3, 12];
     pub const TREE_READ: [usize; 4] = [0, 1, 6, 10];
     /// The refusals that a step of a log can meet. The others cannot come: 1 and 2, since they are a start's; 3, since a run keeps its state sound;
-    /// 5, since each word has a kind; 9, since it needs 1,000,000 accepted sends before it and a log has at most 999,999 lines after its first; 11
-    /// and 12, since a log has no driver and the text of the tree always has room.
-    pub const OF_LOG: [usize; 5] = [4, 6, 7, 8, 10];
+    /// 5, since each word has a kind; 7, since it is retired; 9, since it needs 1,000,000 accepted sends before it and a log has at most 999,999
+    /// lines after its first; 11 and 12, since a log has no driver and the text of the tree always has room.
+    pub const OF_LOG: [usize; 4] = [4, 6, 8, 10];
     /// The refusals of a step on a sound state; beside these it answers 0, or 3 if the state is not sound.
-    pub const OF_SOUND: [usize; 6] = [4, 5, 6, 7, 8, 9];
+    pub const OF_SOUND: [usize; 5] = [4, 5, 6, 8, 9];
     /// The refusals of a step on a sound table, which answers 3 if it is not sound.
-    pub const OF_TABLE_STEP: [usize; 7] = [4, 5, 6, 7, 8, 9, 13];
+    pub const OF_TABLE_STEP: [usize; 6] = [4, 5, 6, 8, 9, 13];
     /// No or yes.
     pub const IS_SOUND: [usize; 2] = [0, 1];
 }

@@ -9,6 +9,7 @@ mod decimal;
 pub mod forms;
 pub mod generate;
 pub mod log;
+pub mod own;
 pub mod refusal;
 pub mod report;
 pub mod request;

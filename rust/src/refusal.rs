@@ -1,4 +1,4 @@
-//! The refusals: paper, "Where a request is turned back". They are named as in crates/refusal.
+//! The refusals: paper, "Where a request is turned back", and request Q-4. They are named as in crates/refusal.
 
 /// Why a request is refused, with the number of the paper's table.
 #[derive(Clone, Copy, Debug, PartialEq, Eq)]
@@ -15,8 +15,6 @@ pub enum Refusal {
     UnknownKind = 5,
     /// A node number that is used is N or more.
     UnknownNode = 6,
-    /// A send from a node to itself.
-    SelfMessage = 7,
     /// The rule's condition fails.
     RuleFails = 8,
     /// 1,000,000 sends were accepted already.
@@ -32,15 +30,17 @@ pub enum Refusal {
 }
 
 impl Refusal {
+    /// The number of no refusal: before request Q-4 a send to oneself was refused with it.
+    pub const RETIRED: u32 = 7;
+
     /// In the order of their numbers.
-    pub const ALL: [Refusal; 13] = [
+    pub const ALL: [Refusal; 12] = [
         Refusal::NodeCount,
         Refusal::StartFlags,
         Refusal::Unsound,
         Refusal::Closed,
         Refusal::UnknownKind,
         Refusal::UnknownNode,
-        Refusal::SelfMessage,
         Refusal::RuleFails,
         Refusal::SendLimit,
         Refusal::NotAForm,

@@ -1,4 +1,4 @@
-//! Safra's termination detection on a ring: paper, "The ring" and "The driver", and request Q-2.
+//! Safra's termination detection on a ring: paper, "The ring" and "The driver", and requests.
 
 use crate::refusal::{require, Refusal};
 use crate::request::{Request, ANNOUNCE, IDLE, PASS, PROBE, SEND, SEND_LIMIT, TAKE};
@@ -252,13 +252,10 @@ impl Ring {
         }
     }
 
-    /// Rule 1.
+    /// Rule 1; the receiver may be the sender.
     fn send(&mut self, i: usize, j: usize, sends: u64) -> Result<(), Refusal> {
         self.check_node(i)?;
         self.check_node(j)?;
-        if i == j {
-            return Err(Refusal::SelfMessage);
-        }
         require(self.active[i])?;
         if sends >= u64::from(SEND_LIMIT) {
             return Err(Refusal::SendLimit);

@@ -1,4 +1,4 @@
-//! Termination detection of Dijkstra and Scholten: paper, "The tree".
+//! Termination detection of Dijkstra and Scholten: paper, "The tree", and request Q-4.
 
 use crate::refusal::{require, Refusal};
 use crate::request::{Request, ACK, ANNOUNCE, IDLE, LEAVE, SEND, SEND_LIMIT, TAKE};
@@ -76,14 +76,13 @@ impl Tree {
             && (!self.closed || self.is_conclusive())
     }
 
-    /// Unused places, and messages from a node to itself.
     fn unused_are_empty(&self) -> bool {
         let places = (self.n..MAX_NODES).all(|i| {
             !self.active[i] && self.engager[i] == NONE && self.unacked[i] == 0 && self.acks[i] == 0
         });
         let pairs = (0..MAX_NODES).all(|i| {
             (0..MAX_NODES)
-                .filter(|&j| i == j || i >= self.n || j >= self.n)
+                .filter(|&j| i >= self.n || j >= self.n)
                 .all(|j| self.in_transit[i][j] == 0)
         });
         places && pairs
@@ -163,13 +162,10 @@ impl Tree {
         }
     }
 
-    /// Rule 1.
+    /// Rule 1; the receiver may be the sender.
     fn send(&mut self, i: usize, j: usize) -> Result<(), Refusal> {
         self.check_node(i)?;
         self.check_node(j)?;
-        if i == j {
-            return Err(Refusal::SelfMessage);
-        }
         require(self.active[i])?;
         if self.sends >= SEND_LIMIT {
             return Err(Refusal::SendLimit);
@@ -180,7 +176,8 @@ impl Tree {
         Ok(())
     }
 
-    /// Rule 2: the message that engages a node is acknowledged only when it leaves.
+    /// Rule 2: the message that engages a node is acknowledged only when it leaves. One of its own
+    /// finds it engaged, since it has it unacknowledged: the acknowledgement sets out to itself.
     fn take(&mut self, i: usize, k: usize) -> Result<(), Refusal> {
         self.check_node(i)?;
         self.check_node(k)?;

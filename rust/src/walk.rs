@@ -10,6 +10,9 @@
 //!
 //! No other way of counting agrees with the published table.
 //!
+//! SendMsg is the listing's own: no message to oneself. Since request Q-4 the ring allows one; the published figures are of the
+//! listing as it is, so none is asked for here.
+//!
 //! RecvMsg is a take of one message. In every state a take of more of them is as many of these in a row: request Q-2.
 
 use crate::report::Report;
@@ -43,7 +46,8 @@ impl Figures {
             ("generated states", self.generated, FULL.generated),
         ];
         for (name, found, asked) in figures {
-            report.exactly(format!("EWD998, N = 3, by {step}: {name}"), found, asked);
+            let name = format!("EWD998 as listed, no message to oneself, N = 3, by {step}: {name}");
+            report.exactly(name, found, asked);
         }
     }
 }
@@ -85,15 +89,15 @@ pub fn walk(mut step: impl FnMut(&Ring, Request) -> Option<Ring>) -> Figures {
     }
 }
 
-/// Every request for an action of EWD998's Next, and some that never are one
-/// and must be refused: a send to oneself, a take of no message and a pass by node 0.
+/// Every request for an action of EWD998's Next as it is listed, and some that never are one
+/// and must be refused: a take of no message and a pass by node 0.
 fn requests() -> Vec<Request> {
     let mut requests = vec![Request::new(PROBE, 0, 0)];
     for i in 0..N {
         for (kind, j) in [(TAKE, 0), (TAKE, 1), (IDLE, 0), (PASS, 0)] {
             requests.push(Request::new(kind, i, j));
         }
-        for j in 0..N {
+        for j in (0..N).filter(|&j| j != i) {
             requests.push(Request::new(SEND, i, j));
         }
     }

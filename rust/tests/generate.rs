@@ -1,7 +1,8 @@
 //! What the generated logs are for: accepted steps mostly, and the limit of lines.
 
 use second::generate::{
-    busy_ring, busy_updates, log, past_line_limit, updates_log, updates_past_line_limit,
+    busy_ring, busy_tree, busy_updates, log, past_line_limit, updates_log, updates_past_line_limit,
+    Rng,
 };
 use second::log::{run, LINE_LIMIT};
 use second::report::Report;
@@ -79,6 +80,32 @@ fn the_last_line_of_updates_that_is_read_is_accepted() {
     let last = split(&answers).nth(LINE_LIMIT as usize - 1);
     assert_eq!(last, Some(&b"(ok 1000000)\n"[..]));
     assert!(answers.ends_with(b")))\n"));
+}
+
+/// A lone node's messages are all to itself.
+#[test]
+fn about_one_message_in_ten_is_to_oneself() {
+    let mut rng = Rng::new(7);
+    for n in [2, 5, 96] {
+        let own = (0..10_000).filter(|k| rng.other_end(n, k % n) == k % n);
+        let own = own.count();
+        assert!((800..1_200).contains(&own), "{own} of {n}");
+    }
+    assert!((0..100).all(|_| rng.other_end(1, 0) == 0));
+}
+
+#[test]
+fn about_one_send_in_ten_of_the_busy_logs_is_to_oneself() {
+    let [wrapped, bare] = busy_updates(20_000);
+    for log in [busy_ring(20_000), busy_tree(20_000), wrapped, bare] {
+        let text = String::from_utf8(log).expect("lines of ASCII");
+        let sends = text.lines().filter_map(|line| line.split_once("(send "));
+        let nodes = sends.map(|(_, nodes)| nodes.trim_end_matches(')').split_once(' '));
+        let nodes: Vec<(&str, &str)> = nodes.map(|nodes| nodes.expect("two nodes")).collect();
+        let own = nodes.iter().filter(|(i, j)| i == j).count();
+        assert!(nodes.len() > 3_000, "{}", nodes.len());
+        assert!((nodes.len() / 14..nodes.len() / 8).contains(&own), "{own}");
+    }
 }
 
 /// Takes there are of one message, and said so by no number.

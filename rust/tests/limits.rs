@@ -1,6 +1,7 @@
 //! The limits of the paper, each named once.
 
 use second::log::{LINE_BYTES, LINE_LIMIT};
+use second::refusal::Refusal;
 use second::request::SEND_LIMIT;
 use second::ring::{self, MOVE_LIMIT, TAKE_LIMIT};
 use second::table::UPDATES;
@@ -14,4 +15,12 @@ fn limits_of_the_paper() {
     assert_eq!((SEND_LIMIT, MOVE_LIMIT), (1_000_000, 1_000));
     assert_eq!(TAKE_LIMIT, 1_000);
     assert_eq!((LINE_LIMIT, LINE_BYTES), (1_000_000, 700));
+}
+
+/// 7 was a send to oneself; since request Q-4 nothing has it.
+#[test]
+fn numbers_of_the_refusals() {
+    let numbers = Refusal::ALL.map(Refusal::number);
+    assert_eq!(numbers, [1, 2, 3, 4, 5, 6, 8, 9, 10, 11, 12, 13]);
+    assert_eq!(Refusal::RETIRED, 7);
 }

@@ -266,11 +266,11 @@ fn tree_lines_that_are_not_a_form() {
 fn steps_are_judged_in_the_order_of_the_table() {
     check(
         "(ring 3), (send 3 3), (send 0 99999), (send 2 2), (send 1 2), (take 0), (idle 3), (pass 3), (pass 0), (probe), (pass 2), (pass 1), (announce), (send 9 9), (probe), (probe 1)",
-        "(ok 1), (no 2 6), (no 3 6), (no 4 7), (no 5 8), (no 6 8), (no 7 6), (no 8 6), (no 9 8), (ok 10), (ok 11), (ok 12), (ok 13), (no 14 4), (no 15 4), (no 16 10), (end (boards 3) (holder 0) (moves 3) (flight 0) (black 0))",
+        "(ok 1), (no 2 6), (no 3 6), (no 4 8), (no 5 8), (no 6 8), (no 7 6), (no 8 6), (no 9 8), (ok 10), (ok 11), (ok 12), (ok 13), (no 14 4), (no 15 4), (no 16 10), (end (boards 3) (holder 0) (moves 3) (flight 0) (black 0))",
     );
     check(
         "(tree 2 (root 1)), (send 2 2), (send 0 0), (send 0 1), (take 0 2), (take 0 1), (ack 1), (leave 1), (leave 0), (idle 1), (announce), (ack 7)",
-        "(ok 1), (no 2 6), (no 3 7), (no 4 8), (no 5 6), (no 6 8), (no 7 8), (no 8 8), (no 9 8), (ok 10), (ok 11), (no 12 4), (end (boards 2) (engaged (1)) (acks 0))",
+        "(ok 1), (no 2 6), (no 3 8), (no 4 8), (no 5 6), (no 6 8), (no 7 8), (no 8 8), (no 9 8), (ok 10), (ok 11), (no 12 4), (end (boards 2) (engaged (1)) (acks 0))",
     );
 }
 
@@ -287,6 +287,40 @@ fn takes_of_several() {
     );
 }
 
+/// Node 2 takes its own message behind the token: quiet at holder 1, then 7 moves.
+#[test]
+fn a_ring_with_a_message_to_oneself() {
+    check(
+        "(ring 3 (active 2) (black)), (send 2 2), (send 0 0), (send 3 3), (take 2 2), (probe), (idle 2), (pass 2), (take 2), (idle 2), (send 2 2), (pass 1), (announce), (probe), (pass 2), (pass 1), (announce), (probe), (pass 2), (pass 1), (announce)",
+        "(ok 1), (ok 2), (no 3 8), (no 4 6), (no 5 8), (ok 6), (ok 7), (ok 8), (ok 9), (ok 10), (no 11 8), (ok 12), (no 13 8), (ok 14), (ok 15), (ok 16), (no 17 8), (ok 18), (ok 19), (ok 20), (ok 21), (end (boards 3) (holder 0) (moves 9) (flight 0) (black 0))",
+    );
+    check(
+        "(ring 3 (active 2) (black)), (send 2 2), (send 2 2), (take 2)",
+        "(ok 1), (ok 2), (ok 3), (ok 4), (end (boards 3) (holder 0) (moves 0) (flight 1) (black 1))",
+    );
+}
+
+/// The token goes round while the message is on its way; once the ring is quiet, one probe.
+#[test]
+fn a_ring_of_one_with_a_message_to_itself() {
+    check(
+        "(ring 1 (active 0) (black)), (send 0 0), (announce), (probe), (probe), (idle 0), (announce), (take 0), (idle 0), (announce), (probe), (probe), (announce), (send 0 0)",
+        "(ok 1), (ok 2), (no 3 8), (ok 4), (ok 5), (ok 6), (no 7 8), (ok 8), (ok 9), (no 10 8), (ok 11), (no 12 8), (ok 13), (no 14 4), (end (boards 1) (holder 0) (moves 3) (flight 0) (black 0))",
+    );
+}
+
+#[test]
+fn a_tree_with_a_message_to_oneself() {
+    check(
+        "(tree 3 (root 0)), (send 0 2), (take 2 0), (send 2 2), (send 1 1), (take 0 0), (idle 2), (leave 2), (take 2 2), (idle 2), (leave 2)",
+        "(ok 1), (ok 2), (ok 3), (ok 4), (no 5 8), (no 6 8), (ok 7), (no 8 8), (ok 9), (ok 10), (no 11 8), (end (boards 3) (engaged (0 (2))) (acks 1))",
+    );
+    check(
+        "(tree 1 (root 0)), (send 0 0), (idle 0), (announce), (take 0 0), (take 0 0), (announce), (idle 0), (announce), (leave 0), (ack 0), (ack 0), (announce), (send 0 0)",
+        "(ok 1), (ok 2), (ok 3), (no 4 8), (ok 5), (no 6 8), (no 7 8), (ok 8), (no 9 8), (no 10 8), (ok 11), (no 12 8), (ok 13), (no 14 4), (end (boards 1) (engaged (0)) (acks 0))",
+    );
+}
+
 /// 1,001 messages on their way: a take of all of them is too large, one of 1,000 is not.
 #[test]
 fn the_largest_take() {
@@ -297,14 +331,16 @@ fn the_largest_take() {
     ));
 }
 
-/// The sample's answers, which were worked out by hand.
+/// The samples' answers, which were worked out by hand: takes of several, messages to oneself.
 #[test]
-fn the_sample_of_an_inbox() {
-    let read = |name: &str| {
-        let path = format!("{}/../samples/inbox.{name}", env!("CARGO_MANIFEST_DIR"));
-        std::fs::read(path).expect("the sample")
-    };
-    assert_eq!(run(&read("log")), read("out"));
+fn the_samples_of_an_inbox_and_of_messages_to_oneself() {
+    for name in ["inbox", "own"] {
+        let read = |end: &str| {
+            let path = format!("{}/../samples/{name}.{end}", env!("CARGO_MANIFEST_DIR"));
+            std::fs::read(path).expect("the sample")
+        };
+        assert_eq!(run(&read("log")), read("out"), "{name}");
+    }
 }
 
 /// A tree's take names the sender, not a number of messages.

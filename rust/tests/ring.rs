@@ -1,4 +1,4 @@
-//! The ring by calls: starts, soundness, the six rules, takes of several messages and the driver.
+//! The ring by calls: starts, soundness, the six rules, takes of several messages, messages to oneself and the driver.
 
 use second::refusal::Refusal;
 use second::request::{Request, ANNOUNCE, IDLE, PASS, PROBE, SEND, SEND_LIMIT, TAKE};
@@ -115,6 +115,76 @@ fn ring_of_one() {
     after(probed, &[(ANNOUNCE, 0, 0)]);
 }
 
+/// A ring of one with a message of its own: sent, taken, quiet, one token move, announced.
+#[test]
+fn ring_of_one_that_sends_to_itself() {
+    let steps = [(SEND, 0, 0), (TAKE, 0, 1), (IDLE, 0, 0)];
+    let quiet = after(start(&[ACTIVE]), &steps);
+    let mut expected = start(&[BLACK]);
+    (expected.sent[0], expected.received[0]) = (1, 1);
+    assert_eq!(quiet, expected);
+    assert_refused(&quiet, (ANNOUNCE, 0, 0), Refusal::RuleFails);
+    assert_eq!(driven(&quiet, 1).0, drive(Reason::Conclusive, 1));
+    let probed = after(quiet, &[(PROBE, 0, 0)]);
+    assert_refused(&probed, (PROBE, 0, 0), Refusal::RuleFails);
+    let closed = after(probed, &[(ANNOUNCE, 0, 0)]);
+    expected.color[0] = 0;
+    expected.token.black = false;
+    expected.closed = true;
+    assert_eq!(closed, expected);
+    assert_refused(&closed, (SEND, 0, 0), Refusal::Closed);
+}
+
+/// While its message is on its way the sum is 1: the token goes round, and nothing is announced, the node being passive or not.
+#[test]
+fn ring_of_one_with_a_message_on_its_way() {
+    let sent = after(start(&[ACTIVE]), &[(SEND, 0, 0)]);
+    let (answer, driven) = driven(&sent, 5);
+    assert_eq!(answer, drive(Reason::Spent, 5));
+    assert!(!driven.token.black && driven.active[0]);
+    assert_refused(&driven, (ANNOUNCE, 0, 0), Refusal::RuleFails);
+    let passive = after(driven, &[(IDLE, 0, 0), (PROBE, 0, 0)]);
+    assert_refused(&passive, (ANNOUNCE, 0, 0), Refusal::RuleFails);
+    assert_refused(&passive, (SEND, 0, 0), Refusal::RuleFails);
+    after(
+        passive,
+        &[(TAKE, 0, 1), (IDLE, 0, 0), (PROBE, 0, 0), (ANNOUNCE, 0, 0)],
+    );
+}
+
+/// Every state of a ring of one that runs from its four starts with at most `sends` sends and no announcement reach.
+fn rings_of_one(sends: u64) -> Vec<Ring> {
+    let mut found: Vec<Ring> = (0..4).map(|flag| start(&[flag])).collect();
+    let mut at = 0;
+    while at < found.len() {
+        for kind in SEND..ANNOUNCE {
+            let j = usize::from(kind == TAKE);
+            let mut next = found[at].clone();
+            let spent = kind == SEND && next.sends() == sends;
+            if !spent && next.step(Request::new(kind, 0, j)).is_ok() && !found.contains(&next) {
+                found.push(next);
+            }
+        }
+        at += 1;
+    }
+    found
+}
+
+/// With 0 to 3 messages sent and taken: token and node are both white, or not yet. With none the node may be white while the token is
+/// black; with one or more it may be black while the token is white, and only a probe makes it white: three states each.
+#[test]
+fn a_quiet_ring_of_one_needs_one_token_move_at_most() {
+    let mut all = rings_of_one(3);
+    all.retain(|ring| !ring.active[0] && ring.in_transit() == 0);
+    assert_eq!(all.len(), 4 * 3);
+    for quiet in all {
+        let both_white = !quiet.token.black && !quiet.is_black(0);
+        let moves = u32::from(!both_white);
+        let answer = driven(&quiet, MOVE_LIMIT).0;
+        assert_eq!(answer, drive(Reason::Conclusive, moves), "{quiet:?}");
+    }
+}
+
 #[test]
 fn driver_on_the_first_start() {
     let first = start(&[0, BLACK]);
@@ -196,6 +266,46 @@ fn send_raises_two_counts_and_no_color() {
     expected.sent[0] = 1;
     expected.pending[2] = 1;
     assert_eq!(after(before, &[(SEND, 0, 2)]), expected);
+}
+
+#[test]
+fn a_node_sends_to_itself_and_takes_it() {
+    let before = start(&[ACTIVE, 0, ACTIVE]);
+    let mut expected = before.clone();
+    expected.sent[2] = 1;
+    expected.pending[2] = 1;
+    let sent = after(before, &[(SEND, 2, 2)]);
+    assert_eq!(sent, expected);
+    assert_eq!(sent.counter(2), 1);
+    assert_refused(&sent, (SEND, 1, 1), Refusal::RuleFails);
+    assert_refused(&sent, (TAKE, 2, 2), Refusal::RuleFails);
+    expected.pending[2] = 0;
+    expected.received[2] = 1;
+    expected.color[0] = 0b100;
+    let taken = after(sent, &[(TAKE, 2, 1)]);
+    assert_eq!(taken, expected);
+    let passive = after(taken, &[(IDLE, 2, 0)]);
+    assert_refused(&passive, (SEND, 2, 2), Refusal::RuleFails);
+}
+
+/// A message of its own behind the token: node 2 takes it after the pass, and the colors tell.
+#[test]
+fn a_message_to_oneself_behind_the_token() {
+    let steps = [
+        (SEND, 2, 2),
+        (PROBE, 0, 0),
+        (IDLE, 2, 0),
+        (PASS, 2, 0),
+        (TAKE, 2, 1),
+        (IDLE, 2, 0),
+    ];
+    let quiet = after(start(&[0, 0, ACTIVE]), &steps);
+    assert_eq!(
+        (quiet.token.pos, quiet.token.q, quiet.counter(2)),
+        (1, 1, 0)
+    );
+    assert!(!quiet.token.black && quiet.is_black(2));
+    assert_eq!(driven(&quiet, MOVE_LIMIT).0, drive(Reason::Conclusive, 7));
 }
 
 #[test]
@@ -348,8 +458,7 @@ fn refusals_in_the_order_of_the_table() {
     assert_refused(&open, (SEND, 3, 3), Refusal::UnknownNode);
     assert_refused(&open, (SEND, 0, 3), Refusal::UnknownNode);
     assert_refused(&open, (SEND, 3, 0), Refusal::UnknownNode);
-    assert_refused(&open, (SEND, 0, 0), Refusal::SelfMessage);
-    assert_refused(&open, (SEND, 2, 2), Refusal::SelfMessage);
+    assert_refused(&open, (SEND, 2, 2), Refusal::RuleFails);
     assert_refused(&open, (SEND, 2, 0), Refusal::RuleFails);
     assert_refused(&open, (TAKE, 1, 1), Refusal::RuleFails);
     assert_refused(&open, (IDLE, 1, 0), Refusal::RuleFails);
@@ -376,8 +485,12 @@ fn send_limit() {
     assert!(ring.is_sound());
     let ring = after(ring, &[(SEND, 0, 1)]);
     assert_refused(&ring, (SEND, 0, 1), Refusal::SendLimit);
+    assert_refused(&ring, (SEND, 0, 0), Refusal::SendLimit);
     assert_refused(&ring, (SEND, 1, 0), Refusal::RuleFails);
+    assert_refused(&ring, (SEND, 1, 1), Refusal::RuleFails);
+    assert_refused(&ring, (SEND, 2, 2), Refusal::UnknownNode);
     let ring = after(ring, &[(TAKE, 1, 1), (TAKE, 1, 1)]);
     assert_eq!((ring.received[1], ring.pending[1]), (SEND_LIMIT, 0));
     assert_refused(&ring, (SEND, 1, 0), Refusal::SendLimit);
+    assert_refused(&ring, (SEND, 1, 1), Refusal::SendLimit);
 }

@@ -64,11 +64,13 @@ fn totals_of_a_sound_state() {
         ring.received = [u32::MAX; MAX_NODES];
         ring.pending = [u32::MAX; MAX_NODES];
     });
-    // Soundness does not ask who sent what to whom.
-    let mut strange = start(&[0]);
-    strange.sent[0] = SEND_LIMIT;
-    strange.pending[0] = SEND_LIMIT;
-    assert!(strange.is_sound());
+    // A ring of one with as many messages to itself as may be.
+    let mut alone = start(&[0]);
+    alone.sent[0] = SEND_LIMIT;
+    alone.pending[0] = SEND_LIMIT;
+    assert!(alone.is_sound());
+    assert_unsound(&alone, |ring| ring.sent[0] = SEND_LIMIT - 1);
+    assert_unsound(&alone, |ring| ring.pending[0] = SEND_LIMIT - 1);
 }
 
 #[test]

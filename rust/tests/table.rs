@@ -1,4 +1,4 @@
-//! A table of eight updates: requests.
+//! A table of eight updates: requests.
 
 use second::refusal::Refusal;
 use second::request::{Request, ANNOUNCE, IDLE, PASS, PROBE, SEND, SEND_LIMIT, TAKE};
@@ -100,6 +100,47 @@ fn a_step_changes_its_own_update_alone() {
     }
 }
 
+/// Node 0 of update 3 sends to itself; of the passive node 2 it is 8, of an update that is not started 13.
+#[test]
+fn a_message_to_oneself_is_of_its_update() {
+    let mut table = started(&[0, 3]);
+    let mut expected = table.clone();
+    let ring = expected.updates[3].as_mut().unwrap();
+    (ring.sent[0], ring.pending[0]) = (1, 1);
+    assert_eq!(table.step(3, send(0, 0)), Ok(()));
+    assert_eq!(table, expected);
+    refused(&table, Refusal::RuleFails, |t| t.step(3, send(2, 2)));
+    refused(&table, Refusal::UnknownNode, |t| t.step(3, send(3, 3)));
+    refused(&table, Refusal::UnknownUpdate, |t| t.step(4, send(0, 0)));
+    let take = Request::new(TAKE, 0, 1);
+    refused(&table, Refusal::RuleFails, |t| t.step(0, take));
+    let ring = expected.updates[3].as_mut().unwrap();
+    (ring.received[0], ring.pending[0], ring.color[0]) = (1, 0, 1);
+    assert_eq!(table.step(3, take), Ok(()));
+    assert_eq!(table, expected);
+}
+
+/// Two updates on one node: update 6 is announced after its own message, while that of update 2 is on its way.
+#[test]
+fn updates_of_one_node() {
+    let mut table = Table::default();
+    let steps = [(TAKE, 1), (IDLE, 0), (PROBE, 0), (ANNOUNCE, 0)];
+    for update in [2, 6] {
+        assert_eq!(table.start(update, 1, &[1]), Ok(()));
+        assert_eq!(table.step(update, send(0, 0)), Ok(()));
+    }
+    for (kind, j) in steps {
+        assert_eq!(table.step(6, Request::new(kind, 0, j)), Ok(()));
+    }
+    assert_eq!(table.step(6, send(0, 0)), Err(Refusal::Closed));
+    let announce = Request::new(ANNOUNCE, 0, 0);
+    assert_eq!(table.step(2, announce), Err(Refusal::RuleFails));
+    for (kind, j) in steps {
+        assert_eq!(table.step(2, Request::new(kind, 0, j)), Ok(()));
+    }
+    assert!(table.is_sound());
+}
+
 #[test]
 fn each_update_is_announced_by_itself() {
     let mut table = started(&[1, 4]);
@@ -180,7 +221,9 @@ fn the_limit_of_sends_is_of_all_together() {
         refused(&table, Refusal::SendLimit, |t| t.step(update, send(0, 1)));
         // What comes before 9 still does.
         refused(&table, Refusal::RuleFails, |t| t.step(update, send(1, 0)));
-        refused(&table, Refusal::SelfMessage, |t| t.step(update, send(1, 1)));
+        refused(&table, Refusal::RuleFails, |t| t.step(update, send(1, 1)));
+        refused(&table, Refusal::SendLimit, |t| t.step(update, send(0, 0)));
+        refused(&table, Refusal::UnknownNode, |t| t.step(update, send(3, 3)));
     }
     assert_eq!(table.step(2, Request::new(TAKE, 1, 1)), Ok(()));
     assert_eq!(table.start(4, 3, &[1, 0, 0]), Ok(()));

@@ -1,4 +1,4 @@
-//! The tree by calls: starts, soundness and the six rules.
+//! The tree by calls: starts, soundness, the six rules and messages to oneself.
 
 use second::refusal::Refusal;
 use second::request::{Request, ACK, ANNOUNCE, IDLE, LEAVE, SEND, SEND_LIMIT, TAKE};
@@ -120,7 +120,7 @@ fn refusals_in_the_order_of_the_table() {
         assert_refused(&open, (kind, MAX_NODES, MAX_NODES), Refusal::UnknownNode);
         assert_refused(&open, (kind, usize::MAX, usize::MAX), Refusal::UnknownNode);
     }
-    assert_refused(&open, (SEND, 2, 2), Refusal::SelfMessage);
+    assert_refused(&open, (SEND, 2, 2), Refusal::RuleFails);
     assert_refused(&open, (SEND, 2, 0), Refusal::RuleFails);
     assert_refused(&open, (TAKE, 1, 0), Refusal::RuleFails);
     assert_refused(&open, (IDLE, 1, 0), Refusal::RuleFails);
@@ -143,9 +143,84 @@ fn send_limit() {
     tree.sends = 999_999;
     let tree = after(tree, &[(SEND, 0, 1)]);
     assert_refused(&tree, (SEND, 0, 1), Refusal::SendLimit);
+    assert_refused(&tree, (SEND, 0, 0), Refusal::SendLimit);
     assert_refused(&tree, (SEND, 1, 0), Refusal::RuleFails);
+    assert_refused(&tree, (SEND, 1, 1), Refusal::RuleFails);
+    assert_refused(&tree, (SEND, 2, 2), Refusal::UnknownNode);
     let tree = after(tree, &[(TAKE, 1, 0)]);
     assert_refused(&tree, (SEND, 1, 0), Refusal::SendLimit);
+    assert_refused(&tree, (SEND, 1, 1), Refusal::SendLimit);
+}
+
+/// The root 0 engaged 2, which sends to itself: it is engaged already, so that the acknowledgement sets out to itself.
+#[test]
+fn a_node_takes_its_own_message_and_acknowledges_itself() {
+    let before = after(start(3, 0), &[(SEND, 0, 2), (TAKE, 2, 0)]);
+    let mut expected = before.clone();
+    expected.unacked[2] = 1;
+    expected.in_transit[2][2] = 1;
+    expected.sends = 2;
+    let sent = after(before, &[(SEND, 2, 2)]);
+    assert_eq!(sent, expected);
+    assert_refused(&sent, (SEND, 1, 1), Refusal::RuleFails);
+    assert_refused(&sent, (TAKE, 0, 0), Refusal::RuleFails);
+    let passive = after(sent, &[(IDLE, 2, 0)]);
+    assert_refused(&passive, (LEAVE, 2, 0), Refusal::RuleFails);
+    expected.in_transit[2][2] = 0;
+    expected.acks[2] = 1;
+    let taken = after(passive, &[(TAKE, 2, 2)]);
+    assert_eq!(taken, expected, "active again, its engager still 0");
+    let passive = after(taken, &[(IDLE, 2, 0)]);
+    assert_refused(&passive, (LEAVE, 2, 0), Refusal::RuleFails);
+    expected.acks[2] = 0;
+    expected.unacked[2] = 0;
+    expected.active[2] = false;
+    let acknowledged = after(passive, &[(ACK, 2, 0)]);
+    assert_eq!(acknowledged, expected);
+    assert_refused(&acknowledged, (SEND, 2, 2), Refusal::RuleFails);
+    let left = after(acknowledged, &[(LEAVE, 2, 0)]);
+    assert_eq!((left.engager[2], left.acks), (NONE, counts(&[(0, 1)])));
+}
+
+/// A column of zeros but for some places.
+fn counts(places: &[(usize, u32)]) -> [u32; MAX_NODES] {
+    let mut column = [0; MAX_NODES];
+    for &(place, count) in places {
+        column[place] = count;
+    }
+    column
+}
+
+/// The root alone: its message is sent, taken and acknowledged, before it is passive or after; then it announces.
+#[test]
+fn tree_of_one_that_sends_to_itself() {
+    let sent = after(start(1, 0), &[(SEND, 0, 0)]);
+    let mut expected = start(1, 0);
+    expected.unacked[0] = 1;
+    expected.in_transit[0][0] = 1;
+    expected.sends = 1;
+    assert_eq!(sent, expected);
+    let waiting = after(sent.clone(), &[(IDLE, 0, 0)]);
+    assert_refused(&waiting, (ANNOUNCE, 0, 0), Refusal::RuleFails);
+    let taken = after(sent, &[(TAKE, 0, 0)]);
+    expected.in_transit[0][0] = 0;
+    expected.acks[0] = 1;
+    assert_eq!(taken, expected);
+    assert_eq!(taken, after(waiting, &[(TAKE, 0, 0)]));
+    assert_refused(&taken, (TAKE, 0, 0), Refusal::RuleFails);
+    let passive_last = after(taken.clone(), &[(ACK, 0, 0), (IDLE, 0, 0)]);
+    let passive = after(taken, &[(IDLE, 0, 0)]);
+    assert_refused(&passive, (ANNOUNCE, 0, 0), Refusal::RuleFails);
+    let quiet = after(passive, &[(ACK, 0, 0)]);
+    assert_eq!(quiet, passive_last);
+    assert_refused(&quiet, (LEAVE, 0, 0), Refusal::RuleFails);
+    assert_refused(&quiet, (SEND, 0, 0), Refusal::RuleFails);
+    let closed = after(quiet, &[(ANNOUNCE, 0, 0)]);
+    expected = start(1, 0);
+    expected.active[0] = false;
+    expected.sends = 1;
+    expected.closed = true;
+    assert_eq!(closed, expected);
 }
 
 fn assert_unsound(tree: &Tree, change: impl Fn(&mut Tree)) {
@@ -184,9 +259,60 @@ fn ranges_of_a_sound_state() {
     });
     assert_unsound(&counted, |tree| {
         tree.unacked[0] = 1;
-        tree.in_transit[0][0] = 1;
+        tree.in_transit[3][0] = 1;
     });
     assert_unsound(&counted, |tree| tree.in_transit[15][15] = 1);
+}
+
+/// The root 0 engaged 1; both have messages to themselves in transit.
+#[test]
+fn messages_to_oneself_in_a_sound_state() {
+    let mut tree = after(start(3, 0), &[(SEND, 0, 1), (TAKE, 1, 0)]);
+    (tree.in_transit[0][0], tree.unacked[0]) = (2, 3);
+    (tree.in_transit[1][1], tree.unacked[1]) = (4, 4);
+    tree.sends = 7;
+    assert!(tree.is_sound());
+    tree.active[1] = false;
+    assert!(tree.is_sound());
+    // As many are unacknowledged as were sent, these among them.
+    assert_unsound(&tree, |tree| tree.sends = 6);
+    // Not counted, counted twice, one too few.
+    assert_unsound(&tree, |tree| tree.unacked[1] = 0);
+    assert_unsound(&tree, |tree| {
+        tree.unacked[1] = 8;
+        tree.sends = 11;
+    });
+    assert_unsound(&tree, |tree| tree.unacked[0] = 2);
+    assert_unsound(&tree, |tree| tree.in_transit[0][0] = 3);
+    let mut all = start(1, 0);
+    (all.in_transit[0][0], all.unacked[0]) = (SEND_LIMIT, SEND_LIMIT);
+    all.sends = SEND_LIMIT;
+    assert!(all.is_sound());
+    assert_unsound(&all, |tree| tree.in_transit[0][0] = SEND_LIMIT + 1);
+    assert_unsound(&all, |tree| {
+        tree.closed = true;
+        tree.active[0] = false;
+    });
+}
+
+/// Node 2 is not engaged: it has no messages to itself, whatever is unacknowledged of it, nor is it its own engager. Places 3 and 15 are unused.
+#[test]
+fn messages_to_oneself_where_none_can_be() {
+    let mut tree = start(3, 0);
+    tree.sends = 9;
+    assert!(tree.is_sound());
+    for place in [2, 3, 15] {
+        assert_unsound(&tree, |tree| tree.in_transit[place][place] = 1);
+        assert_unsound(&tree, |tree| {
+            tree.in_transit[place][place] = 1;
+            tree.unacked[place] = 1;
+        });
+        assert_unsound(&tree, |tree| {
+            tree.in_transit[place][place] = 1;
+            tree.unacked[place] = 2;
+            tree.engager[place] = place;
+        });
+    }
 }
 
 #[test]

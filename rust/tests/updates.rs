@@ -1,4 +1,4 @@
-//! Logs of updates: request Q-1, "The log", and request Q-2.
+//! Logs of updates: request Q-1, "The log", and requests.
 
 use second::log::{run, Log, LINE_BYTES, LINE_LIMIT};
 use second::ring::MAX_NODES;
@@ -113,7 +113,9 @@ fn later_lines_that_are_refused() {
         ("(update 2 (ring 3 (active 9) (black)))", 1),
         ("(update 2 (ring 2 (active 2) (black)))", 6),
         ("(update 2 (send 0 2))", 6),
-        ("(update 2 (send 1 1))", 7),
+        ("(update 2 (send 1 1))", 8),
+        ("(update 2 (send 2 2))", 6),
+        ("(update 0 (send 1 1))", 13),
         ("(update 2 (take 1))", 8),
         ("(update 100000 (probe))", 10),
         ("(update 02 (probe))", 10),
@@ -162,6 +164,19 @@ fn takes_of_several() {
     check(
         "(update 2 (ring 2 (active 0) (black))), (update 0 (ring 2 (active 0) (black))), (update 2 (send 0 1)), (update 0 (send 0 1)), (update 2 (send 0 1)), (update 2 (send 0 1)), (update 0 (take 1 2)), (update 2 (take 1 2)), (update 2 (take 1 2)), (update 0 (take 1 1)), (update 2 (take 1))",
         "(ok 1), (ok 2), (ok 3), (ok 4), (ok 5), (ok 6), (no 7 8), (ok 8), (no 9 8), (ok 10), (ok 11), (update 0 (end (boards 2) (holder 0) (moves 0) (flight 0) (black 1))), (update 2 (end (boards 2) (holder 0) (moves 0) (flight 0) (black 1)))",
+    );
+}
+
+/// Update 2 takes two of its own messages, update 0 has one of its own on its way.
+#[test]
+fn messages_to_oneself() {
+    check(
+        "(update 2 (ring 2 (active 0) (black))), (update 0 (ring 2 (active 1) (black))), (update 2 (send 0 0)), (update 0 (send 0 0)), (update 0 (send 1 1)), (update 2 (send 0 0)), (update 0 (take 0)), (update 2 (take 0 2)), (update 2 (take 0))",
+        "(ok 1), (ok 2), (ok 3), (no 4 8), (ok 5), (ok 6), (no 7 8), (ok 8), (no 9 8), (update 0 (end (boards 2) (holder 0) (moves 0) (flight 1) (black 0))), (update 2 (end (boards 2) (holder 0) (moves 0) (flight 0) (black 1)))",
+    );
+    check(
+        "(update 5 (ring 1 (active 0) (black))), (update 5 (send 0 0)), (update 5 (take 0)), (update 5 (idle 0)), (update 5 (announce)), (update 5 (probe)), (update 5 (announce))",
+        "(ok 1), (ok 2), (ok 3), (ok 4), (no 5 8), (ok 6), (ok 7), (update 5 (end (boards 1) (holder 0) (moves 1) (flight 0) (black 0)))",
     );
 }
 

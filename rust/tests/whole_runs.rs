@@ -5,11 +5,17 @@ use second::request::{Request, ACK, ANNOUNCE, IDLE, LEAVE, PASS, PROBE, SEND};
 use second::ring::{Reason, Ring, MOVE_LIMIT};
 use second::tree::Tree;
 
-/// Any request, more seldom one that sends or announces.
+/// Any request, no send where none is wanted; of the sends every third is to oneself at least.
 fn random_request(rng: &mut Rng, n: usize, sends: bool) -> Request {
     let kind = rng.below(8);
     let kind = if kind == SEND && !sends { IDLE } else { kind };
-    Request::new(kind, rng.below(n + 1), rng.below(n + 1))
+    let (i, j) = (rng.below(n + 1), rng.below(n + 1));
+    let to_oneself = kind == SEND && rng.below(3) == 0;
+    Request::new(kind, i, if to_oneself { i } else { j })
+}
+
+fn is_to_oneself(request: Request) -> bool {
+    request.kind == SEND && request.i == request.j
 }
 
 fn ring_is_quiet(ring: &Ring) -> bool {
@@ -86,8 +92,8 @@ fn check_quiet_tree(mut tree: Tree, rng: &mut Rng) {
 #[test]
 fn rings() {
     let mut rng = Rng::new(11);
-    let mut quiet = 0;
-    for _ in 0..300 {
+    let (mut quiet, mut own, mut alone) = (0, 0, 0);
+    for _ in 0..1_000 {
         let n = 1 + rng.below(5);
         let flags: Vec<u8> = (0..n).map(|_| rng.below(4) as u8).collect();
         let mut ring = Ring::start(n, &flags).expect("an accepted start");
@@ -97,23 +103,26 @@ fn rings() {
             let accepted = ring.step(request).is_ok();
             assert!(ring.is_sound());
             assert!(accepted || ring == before);
+            own += usize::from(accepted && is_to_oneself(request));
             if accepted && request.kind == ANNOUNCE {
                 assert!(ring_is_quiet(&ring));
             }
-            if ring_is_quiet(&ring) && !ring.closed && rng.chance(3) {
+            if ring_is_quiet(&ring) && !ring.closed && (n == 1 || rng.chance(3)) {
                 check_quiet_ring(ring.clone());
                 quiet += 1;
+                alone += usize::from(n == 1 && ring.sends() > 0);
             }
         }
     }
     assert!(quiet > 200, "{quiet}");
+    assert!(own > 200 && alone > 150, "{own} {alone}");
 }
 
 #[test]
 fn trees() {
     let mut rng = Rng::new(12);
-    let mut quiet = 0;
-    for _ in 0..300 {
+    let (mut quiet, mut own, mut alone) = (0, 0, 0);
+    for _ in 0..1_000 {
         let n = 1 + rng.below(5);
         let mut tree = Tree::start(n, rng.below(n)).expect("an accepted start");
         for k in 0..150 {
@@ -122,14 +131,17 @@ fn trees() {
             let accepted = tree.step(request).is_ok();
             assert!(tree.is_sound());
             assert!(accepted || tree == before);
+            own += usize::from(accepted && is_to_oneself(request));
             if accepted && request.kind == ANNOUNCE {
                 assert!(tree_is_quiet(&tree) && tree_accepts(&tree).is_empty());
             }
             if tree_is_quiet(&tree) && !tree.closed && rng.chance(30) {
                 check_quiet_tree(tree.clone(), &mut rng);
                 quiet += 1;
+                alone += usize::from(n == 1 && tree.sends > 0);
             }
         }
     }
     assert!(quiet > 200, "{quiet}");
+    assert!(own > 200 && alone > 150, "{own} {alone}");
 }

@@ -1,65 +1,32 @@
--- The statements of specs/Tree.antt, proved: the runs by computation, and by an invariant that one node alone never sends.
--- Assumes nothing.
+-- The statements of specs/Tree.antt, proved, the runs by computation. Assumes nothing.
 use Prim.Native.Nat.{ℕ}
 use borrow.Author.Tests.{eqb-true, not-true}
 use lib.Dec.{eqb}
 use lib.ListN.{length}
 use mathlib.Core.Bool.{Bool, false, not, true}
 use mathlib.Core.List.{List, [], _++_, _∷_}
-use mathlib.Core.Path.{_∙_, _≡_, ap, refl, subst, sym}
+use mathlib.Core.Path.{_∙_, _≡_, ap, refl, sym}
 use native.Mathlib.Omega.{arith}
 use Rattle.laws.proofs.Places.{all-at}
 use Rattle.laws.specs.Places.{allTo}
 use Rattle.laws.specs.Sums.{countTo, sumTo}
-use Rattle.runs.proofs.Runs.{run-keeps, run-of}
 use Rattle.runs.specs.Runs.{Accepts, Request, acceptedOf, runOf}
-use Rattle.tree_rules.proofs.Accepted.{Rule, acknowledges, announces, idles, leaves, sends, takes}
-use Rattle.tree_rules.proofs.Facts.{take-cases}
-use Rattle.tree_rules.proofs.Theorems.{sound-kept, sound-tested, start-answered}
+use Rattle.tree_rules.proofs.Accepted.{announces}
+use Rattle.tree_rules.proofs.Theorems.{sound-kept, sound-tested}
 use Rattle.tree_rules.specs.Answers.{verdictOf}
-use Rattle.tree_rules.specs.Rules.{Ack, Announce, Idle, Kind, Leave, Send, Take, conclusive, effect, mayLeave}
+use Rattle.tree_rules.specs.Rules.{conclusive, mayLeave}
 use Rattle.tree_rules.specs.Soundness.{Open, balanceTest, chainTest, closedTest, engagerTest, limitTest, pairTest, placeTest, rangeTest, restTest, shapeTest, soundTest}
 use Rattle.tree_rules.specs.Start.{blank, firstState, startOf, startVerdict}
 use Rattle.tree_rules.specs.State.{State, children, climb, messagesFrom}
 use Rattle.tree_rules.specs.Termination.{acksTotal, engagedOthers}
 use Rattle.tree_runs.proofs.Agreement.{tree-agrees}
 use Rattle.tree_runs.proofs.Change.{engaged-null}
-use Rattle.tree_runs.proofs.Traced.{may}
 use Rattle.tree_runs.proofs.WholeRun.{whole-runs}
-use Rattle.tree_runs.specs.Counts.{Announced, Unannounced, activeBy, kind, transitBy, tree}
+use Rattle.tree_runs.specs.Counts.{Announced, Unannounced, activeBy, transitBy, tree}
 use Rattle.tree_runs.specs.DijkstraScholten.{Addr}
-use Rattle.instances.specs.Tree.{Instances, QuietPoint, Unreached, Worked, first, handed, handedRequests, handedSteps, handedTree, requests, steps}
-use Rattle.tree_runs.specs.Requests.{announce, numbers}
+use Rattle.instances.specs.Tree.{Instances, QuietPoint, Worked, alone, aloneRequests, aloneSends, aloneTakes, first, handed, handedRequests, handedSteps, handedTree, requests, steps}
+use Rattle.tree_runs.specs.Requests.{ack, announce, numbers}
 use Rattle.tree_runs.specs.WholeRun.{stepsBy}
-
--- ---- one node alone never sends
-
-abbrev NoneSent : State → Type 0
-NoneSent t = t .n ≡ 1 → t .sends ≡ 0
-
-none-sent : (t : State) (x : Request) → NoneSent t → Accepts tree t x → NoneSent (tree .effect t x)
-none-sent t x p a = go (kind x) (x .i) (x .j) (may t x a .by)
-  where
-    go : (k : Kind) (i j : ℕ) → Rule t i j k → NoneSent (effect t k i j)
-    go Send i j (sends hi hj ne act lim) = λ e. absurd (ne (omega arith))
-    go Take i j (takes hi hj m) = take-cases NoneSent t i j (λ _. p) (λ _. p)
-    go Idle i j (idles hi act) = p
-    go Ack i j (acknowledges hi h) = p
-    go Leave i j (leaves hi l) = p
-    go Announce i j (announces c) = p
-
-first-none : (n root : ℕ) → NoneSent (firstState n root)
-unfolding firstState
-first-none n root e = refl
-
-handed-unreached : Unreached handed
-handed-unreached n root e xs p =
-    let s =
-    run-keeps tree NoneSent none-sent
-    (run-of tree (startOf n root .state) xs)
-    (subst NoneSent (sym (start-answered .first n root e)) (first-none n root)) in
-    let h : handed .sends ≡ 0 = subst NoneSent p s refl in
-    omega arith
 
 -- ---- from what is computed
 
@@ -111,14 +78,25 @@ instances =
     let handed-quiet : QuietPoint handed [] = quiet-point handed [] refl refl refl in
     let three-open : Open handedTree = open-tested handedTree refl refl in
     let three-quiet : QuietPoint handedTree handedRequests = quiet-point handedTree handedRequests refl refl refl in
+    let alone-open : Open alone = sound-kept .start 1 0 refl in
+    let alone-quiet : QuietPoint alone (aloneSends ++ aloneTakes) = quiet-point alone (aloneSends ++ aloneTakes) refl refl refl in
+    let alone-still : QuietPoint alone aloneRequests = quiet-point alone aloneRequests refl refl refl in
+    let lone : Addr 1 = record { nr = 0; below = omega arith } in
     let root : Addr 3 = record { nr = 0; below = omega arith } in
     record {
       start = (refl, first-open);
-      handed-in = (handed-open, handed-unreached);
+      handed-in = (handed-open, refl);
       quiet-point = (refl, first-quiet);
       worked = worked first requests steps _ first-open first-quiet refl refl refl refl refl refl;
       handed-point = handed-quiet;
       handed-worked = worked handed [] [] _ handed-open handed-quiet refl refl refl refl refl refl;
+      alone-start = (refl, alone-open);
+      alone-answers = refl;
+      alone-busy = λ q. omega (arith, q .empty 0 0 (omega arith) (omega arith));
+      alone-point = alone-quiet;
+      alone-worked = worked alone (aloneSends ++ aloneTakes) (ack 0 ∷ []) _ alone-open alone-quiet refl refl refl refl refl refl;
+      alone-last = alone-still;
+      alone-done = worked alone aloneRequests [] _ alone-open alone-still refl refl refl refl refl refl;
       three-in = three-open;
       three-point = (refl, three-quiet);
       three-counts = (refl, refl);
@@ -128,6 +106,8 @@ instances =
             a0 = root;
             initial = tree-agrees .starts 3 .start-is-initial root (omega arith) .1;
             reachable = tree-agrees .runs 3 root .run-is-reachable (omega arith) requests;
+            b0 = lone;
+            reachable-alone = tree-agrees .runs 1 lone .run-is-reachable (omega arith) aloneSends;
             detected = record { passive = refl; settled = refl; engaged = engaged-null 0 (λ z. omega arith) };
           };
     }

@@ -1,6 +1,6 @@
 -- That demand 3 speaks of something: a start and states handed in that meet what `WholeRuns` (ring_runs) asks for, and quiet points of
 -- their runs, with K worked out there. Only statements are here; proofs/Ring.antt proves them.
-use Prim.Native.Nat.{_<_, ℕ}
+use Prim.Native.Nat.{_<_, _≤_, ℕ}
 use lib.IntN.{negsuc, pos}
 use lib.ListN.{replicate}
 use mathlib.Core.Bool.{false, true}
@@ -28,16 +28,32 @@ abbrev pub first : State
 first = startOf 3 startFlags .state
 
 abbrev pub requests : List Request
-requests = announce ∷ probe ∷ pass 2 ∷ send 1 1 ∷ send 1 2 ∷ send 1 2 ∷ take 2 3 ∷ take 2 2 ∷ idle 1 ∷ idle 2 ∷ []
+requests = announce ∷ probe ∷ pass 2 ∷ send 0 0 ∷ send 1 2 ∷ send 1 2 ∷ take 2 3 ∷ take 2 2 ∷ idle 1 ∷ idle 2 ∷ []
 
 abbrev pub answers : List ℕ
-answers = 8 ∷ 0 ∷ 0 ∷ 7 ∷ 0 ∷ 0 ∷ 8 ∷ 0 ∷ 0 ∷ 0 ∷ []
+answers = 8 ∷ 0 ∷ 0 ∷ 8 ∷ 0 ∷ 0 ∷ 8 ∷ 0 ∷ 0 ∷ 0 ∷ []
 
 -- from there to the announcement
 abbrev pub moves : List Request
 moves = pass 1 ∷ probe ∷ pass 2 ∷ pass 1 ∷ probe ∷ pass 2 ∷ pass 1 ∷ []
 
--- ---- a state handed in: one passive node, with one message sent and received
+-- ---- one node by itself (document 02, Q-4: "A ring of one board may now have jobs under way"): it sends to itself, is passive with the message in
+-- transit, takes it, and is passive again; three announcements are refused
+
+abbrev pub alone : State
+alone = startOf 1 (1 ∷ []) .state
+
+-- to where the message is in transit, and from there to the quiet point
+abbrev pub aloneSends : List Request
+aloneSends = send 0 0 ∷ announce ∷ idle 0 ∷ announce ∷ []
+
+abbrev pub aloneTakes : List Request
+aloneTakes = take 0 1 ∷ idle 0 ∷ announce ∷ []
+
+abbrev pub aloneAnswers : List ℕ
+aloneAnswers = 0 ∷ 8 ∷ 0 ∷ 8 ∷ 0 ∷ 0 ∷ 8 ∷ []
+
+-- ---- a state handed in: one passive node, white, with one message sent and received and a black token
 
 -- 1 for node 0
 abbrev pub once : List ℕ
@@ -58,13 +74,13 @@ handed =
       closed = false;
     }
 
--- ---- two rings of three nodes handed in, with counters that no run gives: of three messages sent in all, node 0 sent two and received two
+-- ---- two rings of three nodes handed in, with a sum that no run gives
 
 -- the places of three nodes
 abbrev pub three : ℕ → ℕ → ℕ → List ℕ
 three a b c = a ∷ b ∷ c ∷ replicate 93 0
 
--- all passive, nothing pending; nodes 0 and 1 are black, the token is at node 1 with a sum of -5 that no counters give
+-- all passive, nothing pending; nodes 0 and 1 are black, the token is at node 1 with a sum of -5, and node 2 has received nothing
 abbrev pub quietRing : State
 quietRing =
     record {
@@ -84,7 +100,7 @@ quietRing =
 abbrev pub quietMoves : List Request
 quietMoves = pass 1 ∷ probe ∷ pass 2 ∷ pass 1 ∷ []
 
--- node 1 is active and a message is pending at node 2, which is black; the token is at node 0 with a sum of 7
+-- node 1 is active and a message is pending at node 2, which is black; the token is at node 0 with a sum of 7, and nodes 1 and 2 sent one message
 abbrev pub busyRing : State
 busyRing =
     record {
@@ -100,19 +116,20 @@ busyRing =
       closed = false;
     }
 
--- to a quiet point, with four requests that are refused
+-- to a quiet point, with three requests that are refused, and a message that node 1 sends to itself
 abbrev pub busyRequests : List Request
-busyRequests = announce ∷ send 1 1 ∷ take 2 1 ∷ take 2 1 ∷ send 2 3 ∷ idle 1 ∷ idle 2 ∷ []
+busyRequests = announce ∷ send 1 1 ∷ take 2 1 ∷ take 2 1 ∷ send 2 3 ∷ idle 1 ∷ take 1 1 ∷ idle 1 ∷ idle 2 ∷ []
 
 abbrev pub busyAnswers : List ℕ
-busyAnswers = 8 ∷ 7 ∷ 0 ∷ 8 ∷ 6 ∷ 0 ∷ 0 ∷ []
+busyAnswers = 8 ∷ 0 ∷ 0 ∷ 8 ∷ 6 ∷ 0 ∷ 0 ∷ 0 ∷ 0 ∷ []
 
--- to the announcement: two rounds, the first with the black of node 2, above the token
+-- to the announcement: two rounds, the first with the black of nodes 1 and 2, above the token
 abbrev pub busyMoves : List Request
 busyMoves = probe ∷ pass 2 ∷ pass 1 ∷ probe ∷ pass 2 ∷ pass 1 ∷ []
 
--- no list of requests leads to s from any accepted start: of the states handed in this is so because no node sends to itself, so that what
--- node 0 sent, received and has pending are different messages, and no more than all that were sent
+-- No list of requests leads to s from any accepted start. Of the rings of three this is so because the sum is made of counters of nodes above
+-- the token, and is below 0 at most by what they received and above 0 at most by what they sent; of the ring of one because its token is black
+-- only until the first probe, and until then its node, having received a message, is black.
 abbrev pub Unreached : State → Type 0
 Unreached s =
     (n : ℕ) (flags : List ℕ) → startVerdict n flags ≡ Accepted → (xs : List Request) → runOf ring (startOf n flags .state) xs ≡ s → ⊥
@@ -143,12 +160,13 @@ pub record HandedIn (r : State) (xs : List Request) (told : List ℕ) (ys : List
   pub point : QuietPoint r xs
   pub worked : Worked r xs ys K
 
--- The agreement with EWD998 speaks of something too: of an initial state, of a state reached by a SendMsg, of termination detected. Its
--- claim about sound states is met by the start below.
+-- The agreement with EWD998 speaks of something too: of an initial state, of states reached by SendMsg, the sender's own message too, of termination
+-- detected. Its claim about sound states is met by the start below.
 pub record Agreed : Type 0 where
   pub some-node : 0 < 3
   pub init : Init some-node (varsOf 3 first)
   pub reachable : Reachable some-node (varsOf 3 (runOf ring first requests)) 2
+  pub reachable-alone : (h : 0 < 1) → Reachable h (varsOf 1 (runOf ring alone aloneSends)) 1
   pub detected : terminationDetected some-node (varsOf 3 (runOf ring first (requests ++ moves)))
 
 pub record Instances : Type 0 where
@@ -166,4 +184,11 @@ pub record Instances : Type 0 where
   pub quiet-ring : HandedIn quietRing [] [] quietMoves 4
   pub busy-ring : HandedIn busyRing busyRequests busyAnswers busyMoves 6
   pub busy-first : QuietBy busyRing [] → ⊥
+  -- a ring of one with a message in transit is not quiet; once it is, one move is left, and from no quiet point of a ring of one more
+  pub alone-start : (startVerdict 1 (1 ∷ []) ≡ Accepted) × Open alone
+  pub alone-answers : numbers alone (aloneSends ++ aloneTakes) ≡ aloneAnswers
+  pub alone-busy : QuietBy alone aloneSends → ⊥
+  pub alone-point : QuietPoint alone (aloneSends ++ aloneTakes)
+  pub alone-worked : Worked alone (aloneSends ++ aloneTakes) (probe ∷ []) 1
+  pub alone-bound : (r : State) (xs : List Request) (c : Countdown r xs) → r .n ≡ 1 → c .K ≤ 1
   pub agreed : Agreed

@@ -32,7 +32,26 @@ answers = 8 ∷ 0 ∷ 6 ∷ 0 ∷ 8 ∷ 0 ∷ 0 ∷ []
 abbrev pub steps : List Request
 steps = leave 1 ∷ ack 0 ∷ []
 
--- ---- a state handed in: one passive node, with one message sent and acknowledged
+-- ---- one node by itself (document 02, Q-4): it sends to itself, takes the message, acknowledges itself and becomes passive; three announcements
+-- are refused
+
+abbrev pub alone : State
+alone = startOf 1 0 .state
+
+abbrev pub aloneRequests : List Request
+aloneRequests = send 0 0 ∷ announce ∷ take 0 0 ∷ announce ∷ ack 0 ∷ announce ∷ idle 0 ∷ []
+
+abbrev pub aloneAnswers : List ℕ
+aloneAnswers = 0 ∷ 8 ∷ 0 ∷ 8 ∷ 0 ∷ 8 ∷ 0 ∷ []
+
+-- passive with its message in transit; and, having taken it, with the acknowledgement
+abbrev pub aloneSends : List Request
+aloneSends = send 0 0 ∷ idle 0 ∷ []
+
+abbrev pub aloneTakes : List Request
+aloneTakes = take 0 0 ∷ idle 0 ∷ []
+
+-- ---- a state handed in: one passive node, with one message sent and acknowledged. A run gives it: the one above.
 
 abbrev pub handed : State
 handed =
@@ -77,10 +96,6 @@ handedAnswers = 8 ∷ 8 ∷ 8 ∷ []
 abbrev pub handedSteps : List Request
 handedSteps = ack 0 ∷ leave 2 ∷ ack 1 ∷ ack 1 ∷ ack 0 ∷ leave 1 ∷ ack 0 ∷ []
 
--- no list of requests leads to s from any accepted start: of `handed` this is so because one node alone has nobody to send to
-abbrev pub Unreached : State → Type 0
-Unreached s = (n root : ℕ) → startVerdict n root ≡ Accepted → (xs : List Request) → runOf tree (startOf n root .state) xs ≡ s → ⊥
-
 -- ---- what is shown
 
 -- the point after xs is quiet and not yet announced
@@ -103,25 +118,36 @@ pub record Worked (t : State) (xs ys : List Request) (K : ℕ) : Type 0 where
   pub countdown : Countdown t xs K
   pub only : (m : ℕ) → Countdown t xs m → m ≡ K
 
--- The agreement with document 003 speaks of something too: of initial systems, of systems reached by a message sent, of termination
--- signalled. Its claim about sound states is met by the start below.
+-- The agreement with document 003 speaks of something too: of initial systems, of systems reached by a message sent, to oneself too, of
+-- termination signalled. Its claim about sound states is met by the start below.
 pub record Agreed : Type 0 where
   pub a0 : Addr 3
   pub initial : Initial a0 (systemsOf 3 first)
   pub reachable : Reachable a0 (systemsOf 3 (runOf tree first requests)) 1
+  pub b0 : Addr 1
+  pub reachable-alone : Reachable b0 (systemsOf 1 (runOf tree alone aloneSends)) 1
   pub detected : SignalTermination a0 (systemsOf 3 (runOf tree first (requests ++ steps)))
 
 pub record Instances : Type 0 where
   -- the start is accepted, and its state is sound and not yet announced
   pub start : (startVerdict 3 0 ≡ Accepted) × Open first
-  -- the tree of one node handed in is sound and not yet announced too, and no run from a start gives it
-  pub handed-in : Open handed × Unreached handed
+  -- the tree of one node handed in is sound and not yet announced too; the run of one node by itself leads to it
+  pub handed-in : Open handed × (runOf tree alone aloneRequests ≡ handed)
   -- the run from the start, with its refused requests, leads to a quiet point; two steps are left there
   pub quiet-point : (numbers first requests ≡ answers) × QuietPoint first requests
   pub worked : Worked first requests steps 2
   -- it is quiet; no step is left there
   pub handed-point : QuietPoint handed []
   pub handed-worked : Worked handed [] [] 0
+  -- one node by itself: with its own message in transit it is not quiet, and has an engager; once it has taken it, K is 1 for the acknowledgement;
+  -- once that is taken too, 0
+  pub alone-start : (startVerdict 1 0 ≡ Accepted) × Open alone
+  pub alone-answers : numbers alone aloneRequests ≡ aloneAnswers
+  pub alone-busy : QuietBy alone aloneSends → ⊥
+  pub alone-point : QuietPoint alone (aloneSends ++ aloneTakes)
+  pub alone-worked : Worked alone (aloneSends ++ aloneTakes) (ack 0 ∷ []) 1
+  pub alone-last : QuietPoint alone aloneRequests
+  pub alone-done : Worked alone aloneRequests [] 0
   -- the tree of three handed in is sound, not yet announced and quiet; A + 2E = 7 steps are left there
   pub three-in : Open handedTree
   pub three-point : (numbers handedTree handedRequests ≡ handedAnswers) × QuietPoint handedTree handedRequests

@@ -17,17 +17,33 @@ examples =
       output =
           bytes "(ok 1)\n(no 2 8)\n(ok 3)\n(ok 4)\n(no 5 8)\n(ok 6)\n(ok 7)\n(ok 8)\n(no 9 4)\n(end (boards 2) (holder 0) (moves 4) (flight 0) (black 0))\n";
     }
-    -- a ring that is not quiet: node 3 is none, ack is a word of the tree, a second start is no step, the last line lacks its byte 10
+    -- a ring that is not quiet: node 3 is none, ack is a word of the tree, a second start is no step, node 0 sends to itself, the last line lacks
+    -- its byte 10
     ∷ record {
       log = bytes "(ring 3 (active 0) (black 1 2))\n(send 0 1)\n(probe)\n(idle 3)\n(ack 0)\n(ring 3)\n(send 0 0)\n(pass 1)\n(idle 0)";
       output =
-          bytes "(ok 1)\n(ok 2)\n(ok 3)\n(no 4 6)\n(no 5 10)\n(no 6 10)\n(no 7 7)\n(no 8 8)\n(no 9 10)\n(end (boards 3) (holder 2) (moves 1) (flight 1) (black 2))\n";
+          bytes "(ok 1)\n(ok 2)\n(ok 3)\n(no 4 6)\n(no 5 10)\n(no 6 10)\n(ok 7)\n(no 8 8)\n(no 9 10)\n(end (boards 3) (holder 2) (moves 1) (flight 2) (black 2))\n";
     }
     -- a tree with an acknowledgement in transit: node 0 is engaged already when it takes the message from 1
     ∷ record {
       log = bytes "(tree 3 (root 0))\n(send 0 1)\n(take 1 0)\n(send 1 0)\n(take 0 1)\n(probe)\n(announce)\n(leave 1)\n";
       output =
           bytes "(ok 1)\n(ok 2)\n(ok 3)\n(ok 4)\n(ok 5)\n(no 6 10)\n(no 7 8)\n(no 8 8)\n(end (boards 3) (engaged (0 (1))) (acks 1))\n";
+    }
+    -- messages to oneself: one node by itself, passive with its message in transit, and announced after one token move; a node of a tree, which
+    -- leaves once it has taken its own message and its own acknowledgement, and, passive, does not send
+    ∷ record {
+      log = bytes "(ring 1 (active 0) (black))\n(send 0 0)\n(idle 0)\n(announce)\n(take 0)\n(idle 0)\n(probe)\n(announce)\n";
+      output =
+          bytes "(ok 1)\n(ok 2)\n(ok 3)\n(no 4 8)\n(ok 5)\n(ok 6)\n(ok 7)\n(ok 8)\n(end (boards 1) (holder 0) (moves 1) (flight 0) (black 0))\n";
+    }
+    ∷ record {
+      log =
+          bytes "(tree 2 (root 0))\n(send 0 1)\n(take 1 0)\n(send 1 1)\n(idle 1)\n(leave 1)\n(take 1 1)\n(idle 1)\n(leave 1)\n(ack 1)\n"
+          ++ bytes "(leave 1)\n(send 1 1)\n(idle 0)\n(announce)\n(ack 0)\n(announce)\n(send 0 0)\n";
+      output =
+          bytes "(ok 1)\n(ok 2)\n(ok 3)\n(ok 4)\n(ok 5)\n(no 6 8)\n(ok 7)\n(ok 8)\n(no 9 8)\n(ok 10)\n"
+          ++ bytes "(ok 11)\n(no 12 8)\n(ok 13)\n(no 14 8)\n(ok 15)\n(ok 16)\n(no 17 4)\n(end (boards 2) (engaged (0)) (acks 0))\n";
     }
     -- after a bad or missing first line its refusal is all
     ∷ record { log = bytes "(ring 97)\n(probe)\n"; output = bytes "(no 1 1)\n" }

@@ -2,7 +2,7 @@
 use Prim.Native.Nat.{_<_, ℕ}
 use mathlib.Core.Bool.{true}
 use mathlib.Core.List.{List}
-use mathlib.Core.Logic.{_↔_, _≢_}
+use mathlib.Core.Logic.{_↔_}
 use mathlib.Core.Path.{_∙_, _≡_, subst, sym}
 use native.Mathlib.Omega.{arith}
 use Rattle.laws.proofs.Sums.{total-zeros}
@@ -46,16 +46,15 @@ module _ (r : State) (o : Open r) (xs : List Request) where
       }
 
   decides :
-      Unannounced r xs → (x : Request) → kind x ≡ Send → x .i < r .n → x .j < r .n → x .i ≢ x .j → activeBy r xs (x .i) ≡ true
+      Unannounced r xs → (x : Request) → kind x ≡ Send → x .i < r .n → x .j < r .n → activeBy r xs (x .i) ≡ true
       → Decided (codeOf (ring .verdict here x)) (sendsBy r xs)
   unfolding answerOf
-  decides u x e hi hj ne act =
+  decides u x e hi hj act =
       let n = run-n (run-of ring r xs) in
       let s : Sending here (x .i) (x .j) =
       record {
         sender = omega (arith, n);
         receiver = omega (arith, n);
-        other = ne;
         active = run-active (run-of ring r xs) (o .sound) (x .i) ∙ act;
       } in
       let w : Decided (codeOf (verdictOf here Send (x .i) (x .j))) (total (here .sent) (here .n)) =

@@ -34,7 +34,7 @@ unfolding rings rowsOfRing.range rowsOfRing.flow rowsOfRing.sums rowsOfRing.safr
 rings-pass = refl
 
 pub trees-pass : allPass trees ≡ true
-unfolding trees rowsOfTree.chains rowsOfTree.balance rowsOfTree.resting rowsOfTree.limit rowsOfTree.unused rowsOfTree.range rowsOfTree.announced passes allPass sumTo countTo messagesFrom children climb treeRules.conclusive treeSound.shapeTest treeSound.rangeTest engagerTest chainTest balanceTest restTest pairTest placeTest limitTest treeSound.closedTest treeSound.soundTest tree.verdictOf treeStart.firstState decimal digits childrenText nodeText writeVerdict writtenOf
+unfolding trees rowsOfTree.chains rowsOfTree.balance rowsOfTree.resting rowsOfTree.limit rowsOfTree.unused rowsOfTree.own rowsOfTree.range rowsOfTree.announced passes allPass sumTo countTo messagesFrom children climb treeRules.conclusive treeSound.shapeTest treeSound.rangeTest engagerTest chainTest balanceTest restTest pairTest placeTest limitTest treeSound.closedTest treeSound.soundTest tree.verdictOf treeStart.firstState decimal digits childrenText nodeText writeVerdict writtenOf
 trees-pass = refl
 
 pub updates-pass : allPass updates ≡ true

@@ -21,7 +21,7 @@ rings = ring.range ++ (ring.flow ++ (ring.sums ++ (ring.safra ++ (ring.unused ++
 
 -- "Sound", of the tree
 unfoldable pub trees : List Case
-trees = tree.chains ++ (tree.balance ++ (tree.resting ++ (tree.limit ++ (tree.unused ++ (tree.range ++ tree.announced)))))
+trees = tree.chains ++ (tree.balance ++ (tree.resting ++ (tree.limit ++ (tree.unused ++ (tree.own ++ (tree.range ++ tree.announced))))))
 
 -- "Where a request is turned back"
 unfoldable pub refusals : List Case

@@ -80,8 +80,10 @@ steps =
     ∷ keeps handed 1 256 2 6
     ∷ keeps handed 1 0 258 6
     ∷ keeps handed 3 4294967296 9 6
-    ∷ keeps handed 1 0 0 7
     ∷ keeps handed 1 1 0 8
+    -- to oneself: sent and pending of 0 rise; node 1 is passive
+    ∷ lent-step handed 1 0 0 0 (lent 3 (three 1 0 0) (3 ∷ replicate 11 0) (three 6 6 7) (three 3 4 2) (three 3 1 6) 1 (0 ⊖ 4) 1 0)
+    ∷ keeps handed 1 1 1 8
     ∷ []
 
 -- sound rings, open and closed; closed where announce's test fails; received lent for sent

@@ -24,6 +24,10 @@ grown active closed = lentTree 4 1 active (first 16 1 1 0) (first 0 4 3 2) (movi
 abbrev pub tree : LentTree
 tree = grown (first 0 1 0 1) 0
 
+-- and a message from 0 to itself
+abbrev pub own : LentTree
+own = lentTree 4 1 (first 0 1 0 1) (first 16 1 1 0) (first 0 5 3 2) (set (moving 2 1) 0 1) (first 0 3 0 1) 21 0
+
 -- the root alone engaged, every node passive, nothing on its way
 abbrev pub ended : ℕ → LentTree
 ended closed =
@@ -72,14 +76,19 @@ steps =
     ∷ keeps tree 1 256 3 6
     ∷ keeps tree 1 0 259 6
     ∷ keeps tree 3 4294967296 9 6
-    ∷ keeps tree 1 0 0 7
     ∷ keeps tree 6 9 9 8
+    -- to oneself: unacked of 0, the messages from 0 to 0 and the sends rise; 0 takes it, and an acknowledgement sets out to 0; node 1 is passive
+    ∷ lent-tree-step tree 1 0 0 0 own
+    ∷ lent-tree-step own 2 0 0 0 (lentTree 4 1 (first 0 1 0 1) (first 16 1 1 0) (first 0 5 3 2) (moving 2 1) (first 0 4 0 1) 21 0)
+    ∷ keeps tree 2 0 0 8
+    ∷ keeps tree 1 1 1 8
     ∷ []
 
 -- sound trees, open and closed; unacked lent for acks
 unfoldable pub soundness : List Case
 soundness =
     lent-tree-sound tree 1
+    ∷ lent-tree-sound own 1
     ∷ lent-tree-sound (ended 1) 1
     ∷ lent-tree-sound (lentTree 4 1 (first 0 1 0 1) (first 16 1 1 0) (first 0 3 0 1) (moving 2 1) (first 0 4 3 2) 20 0) 0
     ∷ []

@@ -84,6 +84,10 @@ steps =
     ∷ keeps handed (stepAsk 8 4 9 9) 13
     ∷ keeps handed (stepAsk 263 1 0 2) 13
     ∷ keeps handed (stepAsk 7 1 1 0) 8
+    -- to oneself: sent and pending of 0 rise; node 1 is passive
+    ∷ lent-table handed (stepAsk 7 1 0 0) 0
+    (columns first (lent 3 (three 1 0 0) (3 ∷ replicate 11 0) (three 6 6 7) (three 3 4 2) (three 3 1 6) 2 (0 ⊖ 0) 1 0))
+    ∷ keeps handed (stepAsk 7 1 1 1) 8
     ∷ []
 
 -- sound tables; a ring that is not sound, two numbers of nodes, and a byte that is no truth, at either place

@@ -1,8 +1,8 @@
--- Document 01's numbers: of the refusals, and of the driver's reasons; and "board i is bit i mod 8 (bit 0 lowest) of byte i div 8, and 1 is black".
+-- Document 01's numbers: of the refusals, 7 being retired (document 02, Q-4), and of the driver's reasons; and "board i is bit i mod 8 (bit 0 lowest) of byte i div 8, and 1 is black".
 use Prim.Native.Nat.{ℕ}
 use lib.ListN.{replicate, set}
 use mathlib.Core.List.{List, [], _∷_}
-use Rattle.refusal.specs.declared.Refusal.the-variants.{Closed, MoveLimit, NodeCount, NotAForm, RuleFails, SelfMessage, SendLimit, ShortBuffer, StartFlags, UnknownKind, UnknownNode, UnknownUpdate, Unsound}
+use Rattle.refusal.specs.declared.Refusal.the-variants.{Closed, MoveLimit, NodeCount, NotAForm, RuleFails, SendLimit, ShortBuffer, StartFlags, UnknownKind, UnknownNode, UnknownUpdate, Unsound}
 use Rattle.ring_rules.specs.Start.{startOf}
 use Rattle.ring_rules.specs.State.{State}
 use Rattle.ring_rules.specs.declared.Reason.the-variants.{Conclusive, Spent, Stopped, Waiting}
@@ -27,7 +27,6 @@ numbers =
     ∷ refusal Closed 4
     ∷ refusal UnknownKind 5
     ∷ refusal UnknownNode 6
-    ∷ refusal SelfMessage 7
     ∷ refusal RuleFails 8
     ∷ refusal SendLimit 9
     ∷ refusal NotAForm 10

@@ -81,15 +81,12 @@ order =
     -- 5 over "step, start, 6, a board number that is used is N or more"
     ∷ ring-run ringSpent (request 7 3 3 is 5 ∷ request 0 huge huge is 5 ∷ [])
     ∷ tree-run treeSpent (request 7 3 3 is 5 ∷ request 0 huge huge is 5 ∷ [])
-    -- 6 over "send, 7, i equals j", over "step, 8, the rule's condition fails" and over 9
+    -- 6 over "step, 8, the rule's condition fails" and over "send, 9, 1,000,000 sends already accepted in this run"
     ∷ ring-run ringSpent (ring.send 3 3 is 6 ∷ ring.send 1 3 is 6 ∷ ring.idle 3 is 6 ∷ ring.send 0 3 is 6 ∷ [])
     ∷ tree-run treeSpent (tree.send 3 3 is 6 ∷ tree.send 1 3 is 6 ∷ tree.idle 3 is 6 ∷ tree.send 0 3 is 6 ∷ [])
-    -- 7 over 8, and over "send, 9, 1,000,000 sends already accepted in this run"
-    ∷ ring-run ringSpent (ring.send 1 1 is 7 ∷ ring.send 0 0 is 7 ∷ [])
-    ∷ tree-run treeSpent (tree.send 1 1 is 7 ∷ tree.send 0 0 is 7 ∷ [])
-    -- 8 over 9
-    ∷ ring-run ringSpent (ring.send 1 0 is 8 ∷ ring.send 0 1 is 9 ∷ [])
-    ∷ tree-run treeSpent (tree.send 1 0 is 8 ∷ tree.send 0 1 is 9 ∷ [])
+    -- 8 over 9, to another node and to oneself: 7 was between 6 and 8, and Q-4 retired it
+    ∷ ring-run ringSpent (ring.send 1 0 is 8 ∷ ring.send 0 1 is 9 ∷ ring.send 1 1 is 8 ∷ ring.send 0 0 is 9 ∷ [])
+    ∷ tree-run treeSpent (tree.send 1 0 is 8 ∷ tree.send 0 1 is 9 ∷ tree.send 1 1 is 8 ∷ tree.send 0 0 is 9 ∷ [])
     -- Q-1: 3 over 13, "checked after 3": an update above 7, or a step on one not started
     ∷ table-ask tableUnsound (Start 8 3 (0 ∷ 0 ∷ 0 ∷ [])) 3
     ∷ table-ask tableUnsound (Step 8 ring.probe) 3
@@ -112,6 +109,8 @@ order =
     -- 8 over 9 where the two together have spent the sends
     ∷ table-ask tableSpent (Step 7 (ring.send 1 0)) 8
     ∷ table-ask tableSpent (Step 7 (ring.send 0 1)) 9
+    ∷ table-ask tableSpent (Step 7 (ring.send 1 1)) 8
+    ∷ table-ask tableSpent (Step 7 (ring.send 0 0)) 9
     ∷ table-ask tableSpent (Step 0 (ring.send 0 1)) 9
     -- 3 over 4, 4 over "driver, 11, move limit above 1,000, checked after 4", and 3 over 11
     ∷ drives ringUnsound 1000 3 0

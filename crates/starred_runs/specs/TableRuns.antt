@@ -1,4 +1,4 @@
--- Document 01, "Runs to check", and a take of several.
+-- Document 01, "Runs to check", takes of several, and messages to oneself.
 use Prim.Native.Nat.{ℕ}
 use lib.ListN.{replicate}
 use mathlib.Core.List.{List, [], _∷_}
@@ -88,9 +88,44 @@ runs =
     ∷ quiet-with (treeOf 3 0) (tree.send 0 1 ∷ tree.take 1 0 ∷ tree.idle 0 ∷ tree.idle 1 ∷ tree.leave 1 ∷ []) 1 0
     ∷ quiet-with (treeOf 3 0) (tree.send 0 1 ∷ tree.take 1 0 ∷ tree.idle 0 ∷ tree.idle 1 ∷ tree.leave 1 ∷ tree.ack 0 ∷ []) 0 0
     ∷ tree-run (treeOf 1 0) (tree.idle 0 is 0 ∷ tree.announce is 0 ∷ tree.idle 0 is 4 ∷ tree.announce is 4 ∷ [])
-    -- "take on pending 0: 8. send 2 2 by an idle board: 7."
-    ∷ ring-run (ringOf 3 (0 ∷ 0 ∷ 0 ∷ [])) (ring.take 0 1 is 8 ∷ ring.send 2 2 is 7 ∷ [])
-    ∷ tree-run (treeOf 3 0) (tree.take 1 0 is 8 ∷ tree.send 2 2 is 7 ∷ [])
+    -- "take on pending 0: 8." Document 02, Q-4: "the idle `send 2 2` case is now 8"; of an active node it is a send like any other
+    ∷ ring-run (ringOf 3 (0 ∷ 0 ∷ 0 ∷ [])) (ring.take 0 1 is 8 ∷ ring.send 2 2 is 8 ∷ [])
+    ∷ tree-run (treeOf 3 0) (tree.take 1 0 is 8 ∷ tree.send 2 2 is 8 ∷ [])
+    ∷ ring-run (ringOf 3 (0 ∷ 0 ∷ 1 ∷ [])) (ring.send 2 2 is 0 ∷ ring.idle 2 is 0 ∷ ring.take 2 1 is 0 ∷ ring.take 2 1 is 8 ∷ ring.idle 2 is 0 ∷ [])
+    ∷ tree-run (treeOf 3 2)
+    (tree.send 2 2 is 0
+    ∷ tree.idle 2 is 0
+    ∷ tree.ack 2 is 8
+    ∷ tree.take 2 2 is 0
+    ∷ tree.take 2 2 is 8
+    ∷ tree.ack 2 is 0
+    ∷ tree.ack 2 is 8
+    ∷ tree.announce is 8
+    ∷ tree.idle 2 is 0
+    ∷ tree.announce is 0
+    ∷ [])
+    -- Q-4: "A ring of one board may now have jobs under way, and once quiet its announcement still comes after at most one token move."
+    ∷ ring-run (ringOf 1 (1 ∷ []))
+    (ring.send 0 0 is 0
+    ∷ ring.idle 0 is 0
+    ∷ ring.announce is 8
+    ∷ ring.take 0 1 is 0
+    ∷ ring.idle 0 is 0
+    ∷ ring.announce is 8
+    ∷ ring.probe is 0
+    ∷ ring.probe is 8
+    ∷ ring.announce is 0
+    ∷ [])
+    ∷ quiet-then (ringOf 1 (1 ∷ [])) (ring.send 0 0 ∷ ring.take 0 1 ∷ ring.idle 0 ∷ []) 1
+    -- the token goes round a ring of one while the message is in transit, and again once it is taken
+    ∷ quiet-then (ringOf 1 (1 ∷ [])) (ring.send 0 0 ∷ ring.probe ∷ ring.idle 0 ∷ ring.probe ∷ ring.take 0 1 ∷ ring.idle 0 ∷ []) 1
+    -- a tree of one: A + 2E is 0 where its acknowledgement has come, else 1
+    ∷ tree-run (treeOf 1 0) (tree.send 0 0 is 0 ∷ tree.take 0 0 is 0 ∷ tree.ack 0 is 0 ∷ tree.idle 0 is 0 ∷ tree.announce is 0 ∷ [])
+    ∷ quiet-with (treeOf 1 0) (tree.send 0 0 ∷ tree.take 0 0 ∷ tree.ack 0 ∷ tree.idle 0 ∷ []) 0 0
+    ∷ quiet-with (treeOf 1 0) (tree.send 0 0 ∷ tree.take 0 0 ∷ tree.idle 0 ∷ []) 1 0
+    -- a node that the root engaged sends to itself: with its own acknowledgement to come A is 1 and E is 1
+    ∷ quiet-with (treeOf 3 0)
+    (tree.send 0 1 ∷ tree.take 1 0 ∷ tree.send 1 1 ∷ tree.idle 1 ∷ tree.take 1 1 ∷ tree.idle 1 ∷ tree.idle 0 ∷ []) 1 1
     -- "Driver on the first start with M = 3: spent, 3 moves; M = 4: conclusive, 4."
     ∷ drives (ringOf 2 (0 ∷ 2 ∷ [])) 3 spent 3
     ∷ drives (ringOf 2 (0 ∷ 2 ∷ [])) 4 conclusive 4
@@ -99,4 +134,9 @@ runs =
     (ring.send 0 1 is 0 ∷ ring.send 0 1 is 9 ∷ ring.take 1 1 is 0 ∷ ring.send 1 0 is 9 ∷ [])
     ∷ tree-run (trees.handed (trees.sends 999999 ∷ []))
     (tree.send 0 1 is 0 ∷ tree.send 0 1 is 9 ∷ tree.take 1 0 is 0 ∷ tree.send 1 0 is 9 ∷ [])
+    -- a message to oneself counts as a send
+    ∷ ring-run (rings.handed (rings.active 0 ∷ rings.sent 0 999999 ∷ rings.received 1 999999 ∷ []))
+    (ring.send 0 0 is 0 ∷ ring.send 0 0 is 9 ∷ ring.take 0 1 is 0 ∷ ring.send 0 1 is 9 ∷ [])
+    ∷ tree-run (trees.handed (trees.sends 999999 ∷ []))
+    (tree.send 0 0 is 0 ∷ tree.send 0 0 is 9 ∷ tree.take 0 0 is 0 ∷ tree.send 0 1 is 9 ∷ [])
     ∷ []

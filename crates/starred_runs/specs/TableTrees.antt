@@ -42,7 +42,7 @@ limit =
     ∷ tree-unsound (test.Limit ∷ []) (handed (sends 1000001 ∷ []))
     ∷ []
 
--- "unused places, and jobs from a board to itself, are empty (engager 16)"
+-- "unused places .. are empty (engager 16)"
 unfoldable pub unused : List Case
 unused =
     tree-unsound (test.Resting ∷ []) (handed (active 3 ∷ []))
@@ -54,8 +54,20 @@ unused =
     ∷ tree-sound (handed (message 0 2 ∷ unacked 0 1 ∷ sends 1 ∷ []))
     ∷ tree-unsound (test.Pairs ∷ []) (handed (message 0 3 ∷ unacked 0 1 ∷ sends 1 ∷ []))
     ∷ tree-unsound (test.Pairs ∷ []) (handed (message 0 15 ∷ unacked 0 1 ∷ sends 1 ∷ []))
-    ∷ tree-unsound (test.Pairs ∷ []) (handed (message 0 0 ∷ unacked 0 1 ∷ sends 1 ∷ []))
-    ∷ tree-unsound (test.Pairs ∷ []) (handed (message 1 1 ∷ unacked 1 1 ∷ engager 1 0 ∷ unacked 0 1 ∷ sends 2 ∷ []))
+    ∷ []
+
+-- Document 02, Q-4: "a sound tree may hold such jobs", of an engaged node, each counted once
+unfoldable pub own : List Case
+own =
+    tree-sound (handed (message 0 0 ∷ unacked 0 1 ∷ sends 1 ∷ []))
+    ∷ tree-sound (handed (nodes 1 ∷ passive 0 ∷ message 0 0 ∷ unacked 0 1 ∷ sends 1 ∷ []))
+    ∷ tree-sound (handed (message 1 1 ∷ unacked 1 1 ∷ engager 1 0 ∷ unacked 0 1 ∷ sends 2 ∷ []))
+    ∷ tree-unsound (test.Balance ∷ []) (handed (message 0 0 ∷ unacked 0 2 ∷ sends 2 ∷ []))
+    ∷ tree-unsound (test.Balance ∷ []) (handed (message 0 0 ∷ sends 1 ∷ []))
+    ∷ tree-unsound (test.Resting ∷ []) (handed (message 1 1 ∷ unacked 1 1 ∷ sends 1 ∷ []))
+    ∷ tree-unsound (test.Balance ∷ []) (handed (message 1 1 ∷ sends 1 ∷ []))
+    ∷ tree-unsound (test.Resting ∷ test.Pairs ∷ []) (handed (message 3 3 ∷ unacked 3 1 ∷ sends 1 ∷ []))
+    ∷ tree-unsound (test.Announced ∷ []) (handed (closed ∷ passive 0 ∷ message 0 0 ∷ unacked 0 1 ∷ sends 1 ∷ []))
     ∷ []
 
 -- "N and root are in range, engagers are below N or 16; the root's engager is itself"

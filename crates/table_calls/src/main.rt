@@ -54,7 +54,7 @@ fn unknown_updates(t: Table) {
     sound(e);
 }
 
-// The last send, 9 for the next of either update, which comes after 7; takes still pass, of 1,000 messages at once, and not of 1,001.
+// The last send, 9 for the next of either update, to oneself too; takes still pass, of 1,000 messages at once, and not of 1,001.
 fn limit_together(t: Table) -> Table {
     let a = told(t.step(1, 1, 0, 1));
     let b = told(a.step(0, 1, 0, 1));

@@ -12,7 +12,7 @@ use Rattle.laws.proofs.Tests.{both, both-true, false-true, split}
 use Rattle.refusal.proofs.Table.{accepts, none-holds}
 use Rattle.refusal.specs.Table.{NoneHolds, also, codeOf, firstOf, stepRows}
 use Rattle.refusal.specs.declared.Verdict.the-variants.{Accepted}
-use Rattle.ring_rules.specs.Answers.{outside, toSelf, unknown}
+use Rattle.ring_rules.specs.Answers.{outside, unknown}
 use Rattle.ring_rules.specs.Rules.{guard, kindOf}
 use Rattle.ring_rules.specs.Start.{firstState, flagsTest, startTable, startVerdict}
 use Rattle.runs.specs.Runs.{Request}
@@ -53,14 +53,13 @@ two-met false false true d e = absurd (omega arith)
 two-met false false false true e = (refl, refl, refl, refl)
 two-met false false false false e = absurd (omega arith)
 
-no-thirteen : (c u o s g p : Bool) → codeOf (firstOf (stepRows true c u o s g p)) ≡ 13 → ⊥
-no-thirteen true u o s g p e = omega arith
-no-thirteen false true o s g p e = omega arith
-no-thirteen false false true s g p e = omega arith
-no-thirteen false false false true g p e = omega arith
-no-thirteen false false false false false p e = omega arith
-no-thirteen false false false false true true e = omega arith
-no-thirteen false false false false true false e = omega arith
+no-thirteen : (c u o g p : Bool) → codeOf (firstOf (stepRows true c u o g p)) ≡ 13 → ⊥
+no-thirteen true u o g p e = omega arith
+no-thirteen false true o g p e = omega arith
+no-thirteen false false true g p e = omega arith
+no-thirteen false false false false p e = omega arith
+no-thirteen false false false true true e = omega arith
+no-thirteen false false false true false e = omega arith
 
 pub unsound-three : (t : Table) → (SoundTable t → ⊥) → (a : Ask) → codeOf (verdictOn t a) ≡ 3
 unfolding verdictOn
@@ -120,7 +119,7 @@ module _ (t : Table) (ok : SoundTable t) where
       go (Started r) at e =
           let k = kindOf (x .kind) in
           absurd
-          (no-thirteen (r .closed) (unknown k) (outside r k (x .i) (x .j)) (toSelf k (x .i) (x .j)) (guard r k (x .i) (x .j)) (allSpent t k)
+          (no-thirteen (r .closed) (unknown k) (outside r k (x .i) (x .j)) (guard r k (x .i) (x .j)) (allSpent t k)
           (sym (ap codeOf (limit-rows t ok u r at k (x .i) (x .j))) ∙ e))
 
   pub start-accepted :

@@ -8,7 +8,7 @@ use mathlib.Core.Path.{_≡_}
 use Rattle.refusal.specs.Table.{FirstIs, NoneHolds, Row, codeOf, firstOf, sendLimit, stepRows}
 use Rattle.refusal.specs.declared.Refusal.{Refusal}
 use Rattle.refusal.specs.declared.Verdict.the-variants.{Accepted, Refused}
-use Rattle.ring_rules.specs.Answers.{outside, toSelf, unknown, verdictOf}
+use Rattle.ring_rules.specs.Answers.{outside, unknown, verdictOf}
 use Rattle.ring_rules.specs.Rules.{Kind, Send, guard, kindOf}
 use Rattle.ring_rules.specs.Start.{flagsTest, startVerdict}
 use Rattle.ring_rules.specs.State.{State}
@@ -74,7 +74,7 @@ pub record LimitTogether : Type 0 where
   pub rows :
       (t : Table) → SoundTable t → (u : ℕ) (r : State) → slotAt t u ≡ Started r → (k : Kind) (i j : ℕ)
       → firstOf (updateRows t u k i j)
-      ≡ firstOf (stepRows true (r .closed) (unknown k) (outside r k i j) (toSelf k i j) (guard r k i j) (allSpent t k))
+      ≡ firstOf (stepRows true (r .closed) (unknown k) (outside r k i j) (guard r k i j) (allSpent t k))
   -- what meets 9 is a send of a started update, and exactly so many are made
   pub only :
       (t : Table) → SoundTable t → (a : Ask) → codeOf (verdictOn t a) ≡ 9

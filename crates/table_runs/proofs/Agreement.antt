@@ -43,7 +43,7 @@ use Rattle.table_rules.specs.Soundness.{SoundTable}
 use Rattle.table_rules.specs.Table.{NotStarted, Slot, Started, Table, emptyTable, fixed, sends, sendsOf, slotAt}
 use Rattle.table_runs.proofs.Updates.{announce-accepts, ring-accepts, ring-next, start-begins, start-stands, table-accepts, told-of}
 use Rattle.table_runs.proofs.WholeRun.{latest}
-use Rattle.table_runs.specs.Agreement.{NextAnswered, OthersAlone, RunTo, RunsAgree, SendAllowed, StartsAgree, StepsAgree, at-limit, matched, ringAfter, shownAfter, someNode, stepsOn}
+use Rattle.table_runs.specs.Agreement.{BelowLimit, NextAnswered, OthersAlone, RunTo, RunsAgree, StartsAgree, StepsAgree, at-limit, matched, ringAfter, shownAfter, someNode, stepsOn}
 use Rattle.table_runs.specs.Counts.{AcceptsOn, heardOf, historyOf, startedOf}
 
 -- ---- the starts
@@ -93,7 +93,7 @@ module _ (t : Table) (ok : SoundTable t) (u : ℕ) (r : State) (at : slotAt t u 
 
   module _ (running : r .closed ≡ false) where
     action-accepted :
-        (x : Request) (s : Vars (r .n)) → Action (someNode t ok u r at) (shown r) s (kind x) (x .i) (x .j) → SendAllowed t x
+        (x : Request) (s : Vars (r .n)) → Action (someNode t ok u r at) (shown r) s (kind x) (x .i) (x .j) → BelowLimit t x
         → AcceptsOn t u x × (shownAfter t u r x ≡ s)
     unfolding answerOf
     action-accepted x s a room =
@@ -102,7 +102,7 @@ module _ (t : Table) (ok : SoundTable t) (u : ℕ) (r : State) (at : slotAt t u 
         let b = table-accepts t ok u r at x (room-spent t (kind x) room) (p .0) in
         (b, ring-shown x b ∙ p .1)
 
-    answered : (x : Request) (s : Vars (r .n)) → Action (someNode t ok u r at) (shown r) s (kind x) (x .i) (x .j) → SendAllowed t x → NextAnswered t ok u r at s
+    answered : (x : Request) (s : Vars (r .n)) → Action (someNode t ok u r at) (shown r) s (kind x) (x .i) (x .j) → BelowLimit t x → NextAnswered t ok u r at s
     answered x s a room = let p = action-accepted x s a room in matched x (p .0) (p .1)
 
     spent-9 :
@@ -111,7 +111,7 @@ module _ (t : Table) (ok : SoundTable t) (u : ℕ) (r : State) (at : slotAt t u 
     spent-9 i s a full =
         code-refused _ SendLimit
         (limit-together .decides t ok u r at running (send (i .nr) (a .j .nr)) refl
-        (record { sender = i .below; receiver = a .j .below; other = λ e. a .j-other (sym e); active = a .active }) .1 .1 full)
+        (record { sender = i .below; receiver = a .j .below; active = a .active }) .1 .1 full)
 
     open-answered : (s : Vars (r .n)) → Next (someNode t ok u r at) (shown r) s → NextAnswered t ok u r at s
     open-answered s (system (initiateProbe a)) = answered probe s (is-probe a) (λ e. other-kind (sym e) refl)

@@ -2,7 +2,7 @@
 use Prim.Native.Nat.{_<_, ℕ}
 use mathlib.Core.Bool.{false, true}
 use mathlib.Core.List.{List}
-use mathlib.Core.Logic.{_↔_, _≢_}
+use mathlib.Core.Logic.{_↔_}
 use mathlib.Core.Path.{_∙_, _≡_, ap, refl, subst, sym}
 use native.Mathlib.Omega.{arith}
 use Rattle.laws.proofs.Sums.{sum-same}
@@ -62,10 +62,10 @@ module _ (t : Table) (ok : SoundTable t) (ls : List Ask) where
 
   module _ (u : ℕ) (r : State) (e : historyOf u t ls .first ≡ Started r) where
     decides :
-        r .closed ≡ false → announcedIn (historyOf u t ls .taken) ≡ false → (x : Request) → kind x ≡ Send → x .i < r .n → x .j < r .n → x .i ≢ x .j
+        r .closed ≡ false → announcedIn (historyOf u t ls .taken) ≡ false → (x : Request) → kind x ≡ Send → x .i < r .n → x .j < r .n
         → activeIn r (historyOf u t ls .taken) (x .i) ≡ true
         → ((codeOf (verdictOn here (Step u x)) ≡ 0) ↔ (sendsBy t ls < sendLimit)) × ((codeOf (verdictOn here (Step u x)) ≡ 9) ↔ (sendsBy t ls ≡ sendLimit))
-    decides running n x k hi hj ne act =
+    decides running n x k hi hj act =
         let w = told-of u t ok ls .some r e in
         let c = run-of ring r (heardOf u t ls .steps) in
         let m = run-n c in
@@ -73,7 +73,6 @@ module _ (t : Table) (ok : SoundTable t) (ls : List Ask) where
         record {
           sender = omega (arith, m);
           receiver = omega (arith, m);
-          other = ne;
           active = run-active c (w .sound) (x .i) ∙ ap (λ (l : List Request). activeIn r l (x .i)) (sym (w .accepted)) ∙ act;
         } in
         subst

@@ -52,8 +52,8 @@ abbrev pub shownAfter : Table → ℕ → (r : State) → Request → Vars (r .n
 shownAfter t u r x = varsOf (r .n) (ringAfter t u r x)
 
 -- one send more is below the limit of the eight, where the request is a send
-abbrev pub SendAllowed : Table → Request → Type 0
-SendAllowed t x = kind x ≡ Send → sends t < sendLimit
+abbrev pub BelowLimit : Table → Request → Type 0
+BelowLimit t x = kind x ≡ Send → sends t < sendLimit
 
 module _ (t : Table) (ok : SoundTable t) (u : ℕ) (r : State) (at : slotAt t u ≡ Started r) where
   abbrev pub someNode : 0 < r .n
@@ -74,7 +74,7 @@ module _ (t : Table) (ok : SoundTable t) (u : ℕ) (r : State) (at : slotAt t u 
     pub accepted-is-action : (x : Request) → AcceptsOn t u x → Action someNode (shown r) (shownAfter t u r x) (kind x) (x .i) (x .j)
     -- an action from a state that is not closed is accepted, and leads to the same state
     pub action-is-accepted :
-        r .closed ≡ false → (x : Request) (s : Vars (r .n)) → Action someNode (shown r) s (kind x) (x .i) (x .j) → SendAllowed t x
+        r .closed ≡ false → (x : Request) (s : Vars (r .n)) → Action someNode (shown r) s (kind x) (x .i) (x .j) → BelowLimit t x
         → AcceptsOn t u x × (shownAfter t u r x ≡ s)
     -- so an accepted step of u is so many steps of Next in a row: a take as many as it takes, the announcement, made where terminationDetected
     -- holds, none; a refused one changes nothing

@@ -4,7 +4,7 @@ use Prim.Native.Nat.{_*_, _+_, _-_, _<_, _≤_, ℕ}
 use lib.ListN.{length}
 use mathlib.Core.Bool.{false, true}
 use mathlib.Core.List.{List, [], _++_}
-use mathlib.Core.Logic.{_↔_, _≢_}
+use mathlib.Core.Logic.{_↔_}
 use mathlib.Core.Path.{_≡_}
 use Rattle.refusal.specs.Table.{codeOf, sendLimit}
 use Rattle.ring_rules.specs.Rules.{Announce, Send}
@@ -100,10 +100,10 @@ pub record LimitCounted : Type 0 where
   pub only :
       (t : Table) → SoundTable t → (ls : List Ask) (a : Ask) → codeOf (verdictOn (runOf table t ls) a) ≡ 9
       → (u : ℕ) × (x : Request) × (r : State) × (a ≡ Step u x) × (kind x ≡ Send) × (historyOf u t ls .first ≡ Started r) × (sendsBy t ls ≡ sendLimit)
-  -- a send of u from an active node to another, before u's announcement, is accepted exactly if fewer are made, and meets 9 exactly if so many are
+  -- a send of u from an active node, to any node, before u's announcement, is accepted exactly if fewer are made, and meets 9 exactly if so many are
   pub decides :
       (t : Table) → SoundTable t → (u : ℕ) (ls : List Ask) (r : State) → historyOf u t ls .first ≡ Started r → r .closed ≡ false
-      → announcedIn (historyOf u t ls .taken) ≡ false → (x : Request) → kind x ≡ Send → x .i < r .n → x .j < r .n → x .i ≢ x .j
+      → announcedIn (historyOf u t ls .taken) ≡ false → (x : Request) → kind x ≡ Send → x .i < r .n → x .j < r .n
       → activeIn r (historyOf u t ls .taken) (x .i) ≡ true
       → ((codeOf (verdictOn (runOf table t ls) (Step u x)) ≡ 0) ↔ (sendsBy t ls < sendLimit))
       × ((codeOf (verdictOn (runOf table t ls) (Step u x)) ≡ 9) ↔ (sendsBy t ls ≡ sendLimit))

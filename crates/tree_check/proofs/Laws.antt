@@ -20,15 +20,15 @@ use Rattle.tree_rules.specs.State.{State, engagerAt, unackedAt}
 
 -- the messages from i to the places below k are between two nodes
 unfoldable pub pairsTo : ℕ → List ℕ → ℕ → ℕ → Bool
-pairsTo n transit i k = allTo k (λ m. eqb (getD transit (i * 16 + m) 0) 0 || (ltb i n && (ltb m n && not (eqb i m))))
+pairsTo n transit i k = allTo k (λ m. eqb (getD transit (i * 16 + m) 0) 0 || (ltb i n && ltb m n))
 
 pub pairs-next :
     (n : ℕ) (transit : List ℕ) (i k : ℕ)
-    → pairsTo n transit i (k + 1) ≡ (pairsTo n transit i k && (eqb (getD transit (i * 16 + k) 0) 0 || (ltb i n && (ltb k n && not (eqb i k)))))
+    → pairsTo n transit i (k + 1) ≡ (pairsTo n transit i k && (eqb (getD transit (i * 16 + k) 0) 0 || (ltb i n && ltb k n)))
 unfolding pairsTo
 pairs-next n transit i k = all-next k _
 
-pair-is : (t : State) (i m : ℕ) → (eqb (getD (t .transit) (i * 16 + m) 0) 0 || (ltb i (t .n) && (ltb m (t .n) && not (eqb i m)))) ≡ pairTest t i m
+pair-is : (t : State) (i m : ℕ) → (eqb (getD (t .transit) (i * 16 + m) 0) 0 || (ltb i (t .n) && ltb m (t .n))) ≡ pairTest t i m
 unfolding pairTest
 pair-is t i m = refl
 

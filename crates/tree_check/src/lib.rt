@@ -129,7 +129,7 @@ fn chain_end(engager: &[u8; TREE_NODES], i: usize) -> usize
     at
 }
 
-// Are the messages from place i only between two nodes?
+// Are the messages from place i only from a node to a node?
 fn pairs_ok<'a>(
     r: Rest,
     active: &'a [bool; TREE_NODES],
@@ -146,7 +146,7 @@ fn pairs_ok<'a>(
     let mut ok = true;
     let mut k = 0;
     while k < TREE_NODES {
-        ok = ok & ((transit[i * TREE_NODES + k] == 0) | ((i < n) & ((k < n) & (i != k))));
+        ok = ok & ((transit[i * TREE_NODES + k] == 0) | ((i < n) & (k < n)));
         k += 1;
     }
     ok

@@ -36,9 +36,6 @@ pub fn send<'a>(
     if r.n <= j {
         return refused(r, Refusal::UnknownNode);
     }
-    if i == j {
-        return refused(r, Refusal::SelfMessage);
-    }
     if !active[i] {
         return refused(r, Refusal::RuleFails);
     }

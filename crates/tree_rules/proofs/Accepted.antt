@@ -10,7 +10,7 @@ use Rattle.refusal.specs.Table.{NoneHolds, also, none, sendLimit}
 use Rattle.refusal.specs.declared.Verdict.the-variants.{Accepted}
 use Rattle.tree_rules.proofs.Facts.{engaged-true, true-engaged}
 use Rattle.tree_rules.proofs.Soundness.{sound-true, true-sound}
-use Rattle.tree_rules.specs.Answers.{outside, sendsSpent, stepTable, toSelf, unknown, verdictOf}
+use Rattle.tree_rules.specs.Answers.{outside, sendsSpent, stepTable, unknown, verdictOf}
 use Rattle.tree_rules.specs.Rules.{Ack, Announce, Idle, Kind, Leave, Send, Take, Unknown, conclusive, guard, mayLeave}
 use Rattle.tree_rules.specs.Soundness.{Open, Sound}
 use Rattle.tree_rules.specs.State.{State, acksAt, activeAt, engagerAt, transitAt, unackedAt}
@@ -28,7 +28,7 @@ pub record Leaver (t : State) (i : ℕ) : Type 0 where
   pub settled : unackedAt t i ≡ 0
 
 pub data Rule (t : State) (i j : ℕ) : Kind → Type 0 where
-  sends : i < t .n → j < t .n → i ≢ j → activeAt t i ≡ true → t .sends < sendLimit → Rule t i j Send
+  sends : i < t .n → j < t .n → activeAt t i ≡ true → t .sends < sendLimit → Rule t i j Send
   takes : i < t .n → j < t .n → 0 < transitAt t j i → Rule t i j Take
   idles : i < t .n → activeAt t i ≡ true → Rule t i j Idle
   acknowledges : i < t .n → 0 < acksAt t i → Rule t i j Ack
@@ -72,28 +72,28 @@ pub record Allowed (t : State) (k : Kind) (i j : ℕ) : Type 0 where
   pub by : Rule t i j k
 
 rule :
-    (t : State) (k : Kind) (i j : ℕ) → unknown k ≡ false → outside t k i j ≡ false → toSelf k i j ≡ false → guard t k i j ≡ true → sendsSpent t k
+    (t : State) (k : Kind) (i j : ℕ) → unknown k ≡ false → outside t k i j ≡ false → guard t k i j ≡ true → sendsSpent t k
     ≡ false → Rule t i j k
-rule t Send i j u o s g p =
+rule t Send i j u o g p =
     let q = neither _ _ o in
-    sends (leb-false _ _ (q .0)) (leb-false _ _ (q .1)) (eqb-false _ _ s) g (leb-false _ _ p)
-rule t Take i j u o s g p = let q = neither _ _ o in takes (leb-false _ _ (q .0)) (leb-false _ _ (q .1)) (ltb-true _ _ g)
-rule t Idle i j u o s g p = idles (leb-false _ _ o) g
-rule t Ack i j u o s g p = acknowledges (leb-false _ _ o) (ltb-true _ _ g)
-rule t Leave i j u o s g p = leaves (leb-false _ _ o) (leave-true t i g)
-rule t Announce i j u o s g p = announces (conclusive-true t g)
-rule t Unknown i j u o s g p = absurd (false-true (sym u))
+    sends (leb-false _ _ (q .0)) (leb-false _ _ (q .1)) g (leb-false _ _ p)
+rule t Take i j u o g p = let q = neither _ _ o in takes (leb-false _ _ (q .0)) (leb-false _ _ (q .1)) (ltb-true _ _ g)
+rule t Idle i j u o g p = idles (leb-false _ _ o) g
+rule t Ack i j u o g p = acknowledges (leb-false _ _ o) (ltb-true _ _ g)
+rule t Leave i j u o g p = leaves (leb-false _ _ o) (leave-true t i g)
+rule t Announce i j u o g p = announces (conclusive-true t g)
+rule t Unknown i j u o g p = absurd (false-true (sym u))
 
 pub allowed : (t : State) (k : Kind) (i j : ℕ) → verdictOf t k i j ≡ Accepted → Allowed t k i j
 unfolding verdictOf
 allowed t k i j e = go (none-holds (stepTable t k i j) e)
   where
     go : NoneHolds (stepTable t k i j) → Allowed t k i j
-    go (also s (also c (also u (also o (also v (also g (also p none))))))) =
-        record { sound = sound-true t (not-false _ s); running = c; by = rule t k i j u o v (not-false _ g) p }
+    go (also s (also c (also u (also o (also g (also p none)))))) =
+        record { sound = sound-true t (not-false _ s); running = c; by = rule t k i j u o (not-false _ g) p }
 
 pub rule-guard : (t : State) (k : Kind) (i j : ℕ) → Rule t i j k → guard t k i j ≡ true
-rule-guard t Send i j (sends hi hj ne act lim) = act
+rule-guard t Send i j (sends hi hj act lim) = act
 rule-guard t Take i j (takes hi hj m) = lt-ltb _ _ m
 rule-guard t Idle i j (idles hi act) = act
 rule-guard t Ack i j (acknowledges hi a) = lt-ltb _ _ a
@@ -104,17 +104,16 @@ rule-guard t Announce i j (announces c) = true-conclusive t c
 record Passed (t : State) (k : Kind) (i j : ℕ) : Type 0 where
   known : unknown k ≡ false
   inside : outside t k i j ≡ false
-  other : toSelf k i j ≡ false
   room : sendsSpent t k ≡ false
 
 passed : (t : State) (k : Kind) (i j : ℕ) → Rule t i j k → Passed t k i j
-passed t Send i j (sends hi hj ne act lim) =
-    record { known = refl; inside = rw (lt-leb _ _ hi, lt-leb _ _ hj); other = ne-eqb _ _ ne; room = lt-leb _ _ lim }
-passed t Take i j (takes hi hj m) = record { known = refl; inside = rw (lt-leb _ _ hi, lt-leb _ _ hj); other = refl; room = refl }
-passed t Idle i j (idles hi act) = record { known = refl; inside = lt-leb _ _ hi; other = refl; room = refl }
-passed t Ack i j (acknowledges hi a) = record { known = refl; inside = lt-leb _ _ hi; other = refl; room = refl }
-passed t Leave i j (leaves hi l) = record { known = refl; inside = lt-leb _ _ hi; other = refl; room = refl }
-passed t Announce i j (announces c) = record { known = refl; inside = refl; other = refl; room = refl }
+passed t Send i j (sends hi hj act lim) =
+    record { known = refl; inside = rw (lt-leb _ _ hi, lt-leb _ _ hj); room = lt-leb _ _ lim }
+passed t Take i j (takes hi hj m) = record { known = refl; inside = rw (lt-leb _ _ hi, lt-leb _ _ hj); room = refl }
+passed t Idle i j (idles hi act) = record { known = refl; inside = lt-leb _ _ hi; room = refl }
+passed t Ack i j (acknowledges hi a) = record { known = refl; inside = lt-leb _ _ hi; room = refl }
+passed t Leave i j (leaves hi l) = record { known = refl; inside = lt-leb _ _ hi; room = refl }
+passed t Announce i j (announces c) = record { known = refl; inside = refl; room = refl }
 
 pub accepted : (t : State) (k : Kind) (i j : ℕ) → Open t → Rule t i j k → verdictOf t k i j ≡ Accepted
 unfolding verdictOf
@@ -123,4 +122,4 @@ accepted t k i j o p =
     accepts (stepTable t k i j)
     (also (ap not (true-sound t (o .sound)))
     (also (o .running)
-    (also (q .known) (also (q .inside) (also (q .other) (also (ap not (rule-guard t k i j p)) (also (q .room) none)))))))
+    (also (q .known) (also (q .inside) (also (ap not (rule-guard t k i j p)) (also (q .room) none))))))

@@ -10,7 +10,7 @@ use native.Mathlib.Omega.{arith}
 use Rattle.laws.proofs.Indicators.{ind-ne, lowered-at, raised-at, set-here}
 use Rattle.tree_rules.proofs.Accepted.{Leaver}
 use Rattle.tree_rules.proofs.Chains.{childless, climb-any, climb-engage, climb-leave}
-use Rattle.tree_rules.proofs.Facts.{Balanced, Facts, in-acks, in-engager, in-range, in-transit, root-16, still-open, take-cases, transit-unacked, unacked-engaged}
+use Rattle.tree_rules.proofs.Facts.{Balanced, Facts, in-acks, in-engager, in-range, in-transit, root-16, sender-engaged, still-open, take-cases}
 use Rattle.tree_rules.proofs.Sums.{children-set, from-lowered}
 use Rattle.tree_rules.specs.Rules.{engageOf, leaveOf, replyOf, takeOf}
 use Rattle.tree_rules.specs.Soundness.{Resting}
@@ -29,7 +29,7 @@ module _ (t : State) (f : Facts t) (running : t .closed ≡ false) where
     pair : k * 16 + i < length (t .transit)
     pair = in-transit t f k i k16 i16
 
-    fewer : (a b : ℕ) → a < 16 → b < 16 → 0 < transitAt (engageOf t i k) a b → (a < t .n) × (b < t .n) × (a ≢ b)
+    fewer : (a b : ℕ) → a < 16 → b < 16 → 0 < transitAt (engageOf t i k) a b → (a < t .n) × (b < t .n)
     fewer a b ha hb p = f .messages a b ha hb (omega (arith, lowered-at (t .transit) (k * 16 + i) (a * 16 + b) pair has))
 
     -- i has no engager: it is not the root, and its sender is engaged
@@ -48,7 +48,7 @@ module _ (t : State) (f : Facts t) (running : t .closed ≡ false) where
           )
 
       sender : engagerAt t k ≢ 16
-      sender = unacked-engaged t f k k16 (omega (arith, transit-unacked t f k i k16 i16))
+      sender = sender-engaged t f k i k16 i16 has
 
       size : length (set (t .engager) i k) ≡ 16
       size = length-set (t .engager) i k ∙ f .shape .engager-places

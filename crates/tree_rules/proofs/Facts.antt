@@ -5,7 +5,7 @@ use borrow.Author.Tests.{eq-eqb, eqb-false, eqb-true, ne-eqb, not-false, not-tru
 use lib.ListN.{getD, length}
 use mathlib.Core.Bool.{Bool, cond, false, not, true}
 use mathlib.Core.Logic.{_≢_, _⊎_, inl, inr}
-use mathlib.Core.Path.{_∙_, _≡_, ap, refl, sym}
+use mathlib.Core.Path.{_∙_, _≡_, ap, sym}
 use native.Mathlib.Decide.{decLt, ℕ-discrete}
 use native.Mathlib.Omega.{arith}
 use Rattle.laws.proofs.Sums.{count-zero, sum-term, sum-zero}
@@ -31,7 +31,7 @@ pub record Facts (t : State) : Type 0 where
   pub chained : (i : ℕ) → i < 16 → engagerAt t i ≢ 16 → climb (t .engager) 16 i ≡ t .root
   pub balance : (j : ℕ) → j < 16 → Balanced t j
   pub resting : (i : ℕ) → i < 16 → engagerAt t i ≡ 16 → Resting t i
-  pub messages : (i k : ℕ) → i < 16 → k < 16 → 0 < transitAt t i k → (i < t .n) × (k < t .n) × (i ≢ k)
+  pub messages : (i k : ℕ) → i < 16 → k < 16 → 0 < transitAt t i k → (i < t .n) × (k < t .n)
   pub spent : sumTo 16 (unackedAt t) ≤ t .sends
   pub limit : t .sends ≤ sendLimit
   pub announced : t .closed ≡ true → conclusive t ≡ true
@@ -75,11 +75,11 @@ module _ (t : State) (s : Sound t) where
         count-zero 16 (isChild (t .root) (t .engager) j) (λ i h. no-child (t .root) (t .engager) j i (no-engager-of j lo hj i h)),
       )
 
-  message-nodes : (i k : ℕ) → i < 16 → k < 16 → 0 < transitAt t i k → (i < t .n) × (k < t .n) × (i ≢ k)
+  message-nodes : (i k : ℕ) → i < 16 → k < 16 → 0 < transitAt t i k → (i < t .n) × (k < t .n)
   message-nodes i k hi hk has =
       let hi′ : i < t .n = elim (place i hi) [ inl p ↦ p | inr u ↦ absurd (omega (arith, u .no-messages k hk .0)) ] in
       let hk′ : k < t .n = elim (place k hk) [ inl p ↦ p | inr u ↦ absurd (omega (arith, u .no-messages i hi .1)) ] in
-      (hi′, hk′, λ e. omega (arith, s .not-to-self i hi′, ap (λ (x : ℕ). transitAt t i x) e))
+      (hi′, hk′)
 
   pub facts : Facts t
   facts =
@@ -138,6 +138,10 @@ module _ (t : State) (f : Facts t) where
   unfolding messagesFrom
   transit-unacked i k hi hk = omega (arith, f .balance i hi, sum-term 16 k (λ x. getD (t .transit) (i * 16 + x) 0) hk)
 
+  -- so it is engaged
+  pub sender-engaged : (i k : ℕ) → i < 16 → k < 16 → 0 < transitAt t i k → engagerAt t i ≢ 16
+  sender-engaged i k hi hk has = unacked-engaged i hi (omega (arith, transit-unacked i k hi hk))
+
   unused-place : (i : ℕ) → t .n ≤ i → i < 16 → Unused t i
   unused-place i lo h =
       let free : engagerAt t i ≡ 16 =
@@ -158,13 +162,6 @@ module _ (t : State) (f : Facts t) where
   engager-of i h =
       elim (ℕ-discrete (engagerAt t i) 16) [ yes e ↦ inr e | no e ↦ inl (f .engagers i (in-range i h) e .1) ]
 
-  self-empty : (i : ℕ) → i < t .n → transitAt t i i ≡ 0
-  self-empty i h =
-      elim (decLt 0 (transitAt t i i)) [
-        | yes p ↦ absurd (f .messages i i (in-range i h) (in-range i h) p .2 refl)
-        | no q ↦ omega arith
-      ]
-
   pub sound : Sound t
   sound =
       record {
@@ -175,7 +172,6 @@ module _ (t : State) (f : Facts t) where
         spent = f .spent;
         limit = f .limit;
         unused = unused-place;
-        not-to-self = self-empty;
         some-node = omega (arith, f .root-in);
         nodes = f .nodes;
         root-in = f .root-in;

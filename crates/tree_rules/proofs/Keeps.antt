@@ -3,7 +3,6 @@ use Prim.Native.Nat.{_*_, _+_, _<_, ℕ}
 use lib.ListN.{length-set}
 use lib.Seq.{getD-set-other}
 use mathlib.Core.Bool.{false, true}
-use mathlib.Core.Logic.{_≢_}
 use mathlib.Core.Path.{_∙_, _≡_, ap, sym}
 use native.Mathlib.Decide.{ℕ-discrete}
 use native.Mathlib.Omega.{arith}
@@ -27,8 +26,8 @@ module _ (t : State) (f : Facts t) (running : t .closed ≡ false) where
       omega
       (arith, f .balance m hm, raised-at (t .unacked) i m (in-unacked t f i i16), from-raised (t .transit) i j m (in-transit t f i j i16 j16) j16)
 
-  send-keeps : (i j : ℕ) → i < t .n → j < t .n → i ≢ j → activeAt t i ≡ true → t .sends < sendLimit → Facts (sendOf t i j)
-  send-keeps i j hi hj ne act few =
+  send-keeps : (i j : ℕ) → i < t .n → j < t .n → activeAt t i ≡ true → t .sends < sendLimit → Facts (sendOf t i j)
+  send-keeps i j hi hj act few =
       let i16 : i < 16 = in-range t f i hi in
       let j16 : j < 16 = in-range t f j hj in
       let pair = in-transit t f i j i16 j16 in
@@ -165,7 +164,7 @@ module _ (t : State) (f : Facts t) (running : t .closed ≡ false) where
       }
 
   keeps-facts : (k : Kind) (i j : ℕ) → Rule t i j k → Facts (effect t k i j)
-  keeps-facts Send i j (sends hi hj ne act lim) = send-keeps i j hi hj ne act lim
+  keeps-facts Send i j (sends hi hj act lim) = send-keeps i j hi hj act lim
   keeps-facts Take i j (takes hi hj m) = take-keeps t f running i j hi hj m
   keeps-facts Idle i j (idles hi act) = idle-keeps i hi
   keeps-facts Ack i j (acknowledges hi a) = ack-keeps i hi a

@@ -1,6 +1,6 @@
 -- What meets the limit of sends. Assumes nothing.
 use Prim.Native.Nat.{_<_, _≤_, ℕ}
-use borrow.Author.Tests.{leb-true, lt-leb, ne-eqb}
+use borrow.Author.Tests.{leb-true, lt-leb}
 use mathlib.Core.Bool.{false, true}
 use mathlib.Core.Logic.{_↔_}
 use mathlib.Core.Path.{_≡_, refl}
@@ -10,7 +10,7 @@ use Rattle.refusal.proofs.Table.{last-row, limit-row}
 use Rattle.refusal.specs.Table.{codeOf, sendLimit}
 use Rattle.tree_rules.proofs.Answers.{by-tests}
 use Rattle.tree_rules.proofs.Soundness.{sound-true, true-sound}
-use Rattle.tree_rules.specs.Answers.{answerOf, outside, sendsSpent, toSelf, unknown, verdictOf}
+use Rattle.tree_rules.specs.Answers.{answerOf, outside, sendsSpent, unknown, verdictOf}
 use Rattle.tree_rules.specs.Rules.{Ack, Announce, Idle, Kind, Leave, Send, Take, Unknown, guard}
 use Rattle.tree_rules.specs.Soundness.{Open, soundTest}
 use Rattle.tree_rules.specs.State.{State}
@@ -29,7 +29,7 @@ spent-send t Unknown e = absurd (false-true e)
 pub limit-only : (t : State) (k : Kind) (i j : ℕ) → codeOf (answerOf t k i j .verdict) ≡ 9 → (k ≡ Send) × (t .sends ≡ sendLimit)
 unfolding answerOf verdictOf
 limit-only t k i j e =
-    let w = limit-row (soundTest t) (t .closed) (unknown k) (outside t k i j) (toSelf k i j) (guard t k i j) (sendsSpent t k) e in
+    let w = limit-row (soundTest t) (t .closed) (unknown k) (outside t k i j) (guard t k i j) (sendsSpent t k) e in
     let s = spent-send t k (w .1) in
     (s .0, omega (arith, s .1, sound-true t (w .0) .limit))
 
@@ -40,7 +40,7 @@ pub limit-decides :
 unfolding answerOf
 limit-decides t i j o s =
     last-row _ (t .sends)
-    (rw (by-tests t Send i j _ _ _ _ _ _ _ (true-sound t (o .sound)) (o .running) refl inside (ne-eqb i j (s .other)) (s .active) refl))
+    (rw (by-tests t Send i j _ _ _ _ _ _ (true-sound t (o .sound)) (o .running) refl inside (s .active) refl))
     (o .sound .limit)
   where
     inside : outside t Send i j ≡ false

@@ -189,7 +189,7 @@ conclusive-left t s c = none-left t (facts t s) c
 module _ (t : State) (s : Sound t) (q : Quiet t) where
   -- a quiet tree accepts acknowledgements, leavings and announcements only
   pub quiet-only : (k : Kind) (i j : ℕ) → Rule t i j k → Closing k ⊎ (k ≡ Announce)
-  quiet-only Send i j (sends hi hj ne act lim) = absurd (false-true (sym (q .passive i hi) ∙ act))
+  quiet-only Send i j (sends hi hj act lim) = absurd (false-true (sym (q .passive i hi) ∙ act))
   quiet-only Take i j (takes hi hj m) = absurd (omega (arith, q .empty j i hj hi))
   quiet-only Idle i j (idles hi act) = absurd (false-true (sym (q .passive i hi) ∙ act))
   quiet-only Ack i j (acknowledges hi a) = inl acknowledging

@@ -66,11 +66,11 @@ true-pair : (t : State) → Facts t → (i k : ℕ) → i < 16 → k < 16 → pa
 unfolding pairTest
 true-pair t f i k hi hk = true-else _ _ there
   where
-    there : eqb (transitAt t i k) 0 ≡ false → (ltb i (t .n) && (ltb k (t .n) && not (eqb i k))) ≡ true
+    there : eqb (transitAt t i k) 0 ≡ false → (ltb i (t .n) && ltb k (t .n)) ≡ true
     there e =
         let ne : transitAt t i k ≢ 0 = eqb-false _ _ e in
         let r = f .messages i k hi hk (omega arith) in
-        both-true (lt-ltb _ _ (r .0)) (both-true (lt-ltb _ _ (r .1)) (not-eq (ne-eqb _ _ (r .2))))
+        both-true (lt-ltb _ _ (r .0)) (lt-ltb _ _ (r .1))
 
 true-place : (t : State) → Facts t → (i : ℕ) → i < 16 → placeTest t i ≡ true
 unfolding placeTest engagerTest chainTest balanceTest restTest
@@ -125,8 +125,7 @@ facts-true t e =
           λ i k hi hk has.
           let ne : transitAt t i k ≢ 0 = omega arith in
           let q = both _ _ (else-true _ _ (all-at 16 (pairTest t i) (place i hi .pairs) k hk) (ne-eqb _ _ ne)) in
-          let q₂ = both _ _ (q .1) in
-          (ltb-true _ _ (q .0), ltb-true _ _ (q₂ .0), eqb-false _ _ (not-true _ (q₂ .1)));
+          (ltb-true _ _ (q .0), ltb-true _ _ (q .1));
       spent = leb-true _ _ (limits .0);
       limit = leb-true _ _ (limits .1);
       announced = λ c. else-true _ _ (p₄ .1) (ap not c);

@@ -1,6 +1,7 @@
 -- The statements of specs/Theorems.antt, proved. Assumes nothing.
 use Prim.Native.Nat.{_<_, ℕ}
-use mathlib.Core.Logic.{_⊎_}
+use borrow.Author.Tests.{lt-leb, lt-ltb}
+use mathlib.Core.Logic.{_≢_, _⊎_}
 use mathlib.Core.Path.{_∙_, _≡_, ap, refl, subst, sym}
 use Rattle.laws.proofs.Tests.{false-true}
 use Rattle.refusal.proofs.Table.{accepts, first-row, none-holds, numbered, other-kind}
@@ -10,6 +11,8 @@ use Rattle.refusal.specs.Table.{settle}
 use Rattle.refusal.specs.declared.Verdict.{Verdict}
 use Rattle.refusal.specs.declared.Verdict.the-variants.{Accepted, Refused}
 use Rattle.tree_rules.proofs.Accepted.{Allowed, Rule, allowed, announces}
+use Rattle.tree_rules.proofs.Answers.{accepted-answer, acceptedAs}
+use Rattle.tree_rules.proofs.Facts.{facts, in-range, sender-engaged, take-replies, true-engaged}
 use Rattle.tree_rules.proofs.Keeps.{keeps}
 use Rattle.tree_rules.proofs.Limit.{limit-decides, limit-only}
 use Rattle.tree_rules.proofs.Quiet.{conclusive-quiet}
@@ -19,9 +22,9 @@ use Rattle.tree_rules.specs.Answers.{answerOf, stepTable, verdictOf}
 use Rattle.tree_rules.specs.Rules.{Ack, Announce, Idle, Kind, Leave, Send, Take, Unknown, effect, kindOf}
 use Rattle.tree_rules.specs.Soundness.{Open, Sound, soundTest}
 use Rattle.tree_rules.specs.Start.{blank, firstState, startOf, startTable, startVerdict}
-use Rattle.tree_rules.specs.State.{State}
+use Rattle.tree_rules.specs.State.{State, engagerAt, transitAt}
 use Rattle.tree_rules.specs.Termination.{Quiet, acksTotal}
-use Rattle.tree_rules.specs.Theorems.{AnnouncedQuiet, CountsTold, FieldsUnread, LimitMet, SoundKept, SoundTested, StartAnswered, StepAnswered, Tells}
+use Rattle.tree_rules.specs.Theorems.{AnnouncedQuiet, CountsTold, FieldsUnread, LimitMet, OwnMessages, SoundKept, SoundTested, StartAnswered, StepAnswered, Tells}
 
 pub sound-tested : SoundTested
 sound-tested = record { holds = sound-true; tested = true-sound }
@@ -92,6 +95,21 @@ announced-quiet =
 pub limit-met : LimitMet
 limit-met =
     record { only = limit-only; below = λ t i j o s. limit-decides t i j o s .0; spent = λ t i j o s. limit-decides t i j o s .1 }
+
+pub own-messages : OwnMessages
+own-messages =
+    record {
+      engaged = λ t s i k hi hk has. true-engaged t i (sender t s i k hi hk has);
+      taken =
+          λ t o i hi has.
+          sym (accepted-answer t Take i i o refl (rw (lt-leb (t .n) i hi)) (lt-ltb 0 (transitAt t i i) has) refl)
+          ∙ ap acceptedAs (sym (take-replies t i i (sender t (o .sound) i i hi hi has)));
+    }
+  where
+    sender : (t : State) → Sound t → (i k : ℕ) → i < t .n → k < t .n → 0 < transitAt t i k → engagerAt t i ≢ 16
+    sender t s i k hi hk has =
+        let f = facts t s in
+        sender-engaged t f i k (in-range t f i hi) (in-range t f k hk) has
 
 pub fields-unread : FieldsUnread
 unfolding answerOf verdictOf

@@ -1,6 +1,6 @@
 -- Document 01, "Where a request is turned back": the verdict on a step and its answer, for every state and all numbers.
 use Prim.Native.Nat.{ℕ}
-use lib.Dec.{eqb, leb}
+use lib.Dec.{leb}
 use mathlib.Core.Bool.{Bool, _||_, false, true}
 use mathlib.Core.List.{List}
 use Rattle.refusal.specs.Counts.{countOf}
@@ -31,16 +31,6 @@ outside t Leave i j = leb (t .n) i
 outside t Announce i j = false
 outside t Unknown i j = false
 
--- a send names a receiver that it may not have: the sender itself
-abbrev pub toSelf : Kind → ℕ → ℕ → Bool
-toSelf Send i j = eqb i j
-toSelf Take i j = false
-toSelf Idle i j = false
-toSelf Ack i j = false
-toSelf Leave i j = false
-toSelf Announce i j = false
-toSelf Unknown i j = false
-
 -- a send where the run's sends are spent
 abbrev pub sendsSpent : State → Kind → Bool
 sendsSpent t Send = leb sendLimit (t .sends)
@@ -54,7 +44,7 @@ sendsSpent t Unknown = false
 -- the table for a step
 abbrev pub stepTable : State → Kind → ℕ → ℕ → List Row
 stepTable t k i j =
-    stepRows (soundTest t) (t .closed) (unknown k) (outside t k i j) (toSelf k i j) (guard t k i j) (sendsSpent t k)
+    stepRows (soundTest t) (t .closed) (unknown k) (outside t k i j) (guard t k i j) (sendsSpent t k)
 
 unfoldable pub verdictOf : State → Kind → ℕ → ℕ → Verdict
 verdictOf t k i j = firstOf (stepTable t k i j)

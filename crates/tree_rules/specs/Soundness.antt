@@ -46,7 +46,6 @@ pub record Sound (t : State) : Type 0 where
   pub spent : sumTo 16 (unackedAt t) ≤ t .sends
   pub limit : t .sends ≤ sendLimit
   pub unused : (i : ℕ) → t .n ≤ i → i < 16 → Unused t i
-  pub not-to-self : (i : ℕ) → i < t .n → transitAt t i i ≡ 0
   pub some-node : 0 < t .n
   pub nodes : t .n ≤ 16
   pub root-in : t .root < t .n
@@ -84,9 +83,9 @@ balanceTest t j = eqb (unackedAt t j) (messagesFrom (t .transit) j + acksAt t j 
 unfoldable pub restTest : State → ℕ → Bool
 restTest t i = engaged t i || (not (activeAt t i) && eqb (unackedAt t i) 0)
 
--- a message is in transit only from a node to another node
+-- a message is in transit only from a node to a node, itself or another
 unfoldable pub pairTest : State → ℕ → ℕ → Bool
-pairTest t i k = eqb (transitAt t i k) 0 || (ltb i (t .n) && (ltb k (t .n) && not (eqb i k)))
+pairTest t i k = eqb (transitAt t i k) 0 || (ltb i (t .n) && ltb k (t .n))
 
 unfoldable pub placeTest : State → ℕ → Bool
 placeTest t i = engagerTest t i && (chainTest t i && (balanceTest t i && (restTest t i && allTo 16 (pairTest t i))))

@@ -8,10 +8,10 @@ use Rattle.refusal.specs.declared.Count.{Count}
 use Rattle.refusal.specs.declared.Refusal.{Refusal}
 use Rattle.refusal.specs.declared.Verdict.the-variants.{Accepted, Refused}
 use Rattle.tree_rules.specs.Answers.{acksAnswer, answerOf, stepOf, stepTable, verdictOf}
-use Rattle.tree_rules.specs.Rules.{Ack, Announce, Idle, Kind, Leave, Send, Unknown, effect}
+use Rattle.tree_rules.specs.Rules.{Ack, Announce, Idle, Kind, Leave, Send, Take, Unknown, effect, replyOf}
 use Rattle.tree_rules.specs.Soundness.{Open, Sound, soundTest}
 use Rattle.tree_rules.specs.Start.{firstState, startOf, startTable, startVerdict}
-use Rattle.tree_rules.specs.State.{State, activeAt}
+use Rattle.tree_rules.specs.State.{State, activeAt, engaged, transitAt}
 use Rattle.tree_rules.specs.Termination.{Quiet, acksTotal}
 
 -- The facts of soundness and the test that code computes agree.
@@ -61,11 +61,10 @@ pub record AnnouncedQuiet : Type 0 where
   pub closes : (t : State) (i j : ℕ) → verdictOf t Announce i j ≡ Accepted → answerOf t Announce i j .state .closed ≡ true
   pub last : (t : State) → t .closed ≡ true → (k : Kind) (i j : ℕ) → verdictOf t k i j ≡ Accepted → ⊥
 
--- a send that meets no row above the last: from an active node to another
+-- a send that meets no row above the last: from an active node to any node
 pub record Sending (t : State) (i j : ℕ) : Type 0 where
   pub sender : i < t .n
   pub receiver : j < t .n
-  pub other : i ≢ j
   pub active : activeAt t i ≡ true
 
 -- Document 01: "Sends below the limit meet 9 never; takes never meet it." The limit is 1,000,000 sends.
@@ -75,6 +74,13 @@ pub record LimitMet : Type 0 where
   -- a send that meets no row above is accepted exactly if fewer are made, and meets 9 exactly if so many are
   pub below : (t : State) (i j : ℕ) → Open t → Sending t i j → (codeOf (answerOf t Send i j .verdict) ≡ 0) ↔ (t .sends < sendLimit)
   pub spent : (t : State) (i j : ℕ) → Open t → Sending t i j → (codeOf (answerOf t Send i j .verdict) ≡ 9) ↔ (t .sends ≡ sendLimit)
+
+-- Document 02, Q-4: "On the tree a board taking its own job is already engaged and acknowledges itself." Whoever has a message in transit is engaged,
+-- its receiver being any node, itself too; so a message to oneself can be taken, its taker keeps its engager, and the acknowledgement sets out to it.
+pub record OwnMessages : Type 0 where
+  pub engaged : (t : State) → Sound t → (i k : ℕ) → i < t .n → k < t .n → 0 < transitAt t i k → engaged t i ≡ true
+  pub taken :
+      (t : State) → Open t → (i : ℕ) → i < t .n → 0 < transitAt t i i → answerOf t Take i i ≡ record { verdict = Accepted; state = replyOf t i i }
 
 -- Fields that a kind does not use are not read: an unknown kind uses none, and all kind numbers outside 1 to 6 are answered alike.
 pub record FieldsUnread : Type 0 where

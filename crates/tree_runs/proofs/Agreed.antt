@@ -1,18 +1,18 @@
 -- The proofs of what specs/Agreement.antt says of one step. Assumes nothing.
 use Prim.Native.Nat.{_≤_, ℕ}
-use borrow.Author.Tests.{eq-eqb, le-leb, lt-leb, ne-eqb}
+use borrow.Author.Tests.{le-leb, lt-leb}
 use mathlib.Core.Bool.{Bool, false, true}
-use mathlib.Core.Logic.{_↔_, _≢_, _⊎_, inl, inr}
+use mathlib.Core.Logic.{_↔_, _⊎_, inl, inr}
 use mathlib.Core.Path.{_∙_, _≡_, ap, refl, subst, sym}
-use native.Mathlib.Decide.{decLt, ℕ-discrete}
+use native.Mathlib.Decide.{decLt}
 use native.Mathlib.Omega.{arith}
 use Rattle.laws.proofs.Tests.{false-true, split}
 use Rattle.refusal.specs.Table.{sendLimit, settle}
-use Rattle.refusal.specs.declared.Refusal.the-variants.{SelfMessage, SendLimit}
+use Rattle.refusal.specs.declared.Refusal.the-variants.{SendLimit}
 use Rattle.refusal.specs.declared.Verdict.{Verdict}
 use Rattle.refusal.specs.declared.Verdict.the-variants.{Accepted, Refused}
 use Rattle.tree_rules.proofs.Accepted.{Conclusion, accepted, allowed, conclusive-true}
-use Rattle.tree_rules.proofs.Answers.{limit-answer, self-answer}
+use Rattle.tree_rules.proofs.Answers.{limit-answer}
 use Rattle.tree_rules.proofs.Facts.{facts}
 use Rattle.tree_rules.proofs.Quiet.{alone, at-rest, conclusive-quiet}
 use Rattle.tree_rules.specs.Answers.{Answer, answerOf, outside, stepOf, verdictOf}
@@ -21,7 +21,7 @@ use Rattle.tree_rules.specs.Soundness.{Open, Resting, Sound}
 use Rattle.tree_rules.specs.State.{State, activeAt, engagerAt}
 use Rattle.tree_runs.proofs.Change.{null-engaged}
 use Rattle.tree_runs.proofs.Steps.{action-rule, of-signal, rule-action, signal-of}
-use Rattle.tree_runs.specs.Agreement.{AcceptsStep, RuleAnswered, SendAllowed, at-limit, matched, rootOf, shown, shownAfter, to-oneself}
+use Rattle.tree_runs.specs.Agreement.{AcceptsStep, BelowLimit, RuleAnswered, at-limit, matched, rootOf, shown, shownAfter}
 use Rattle.tree_runs.specs.DijkstraScholten.{Addr, SendDAT, SignalTermination, Step, Systems, deactivate, disengage, receive-ACK, receive-DAT, send-DAT}
 use Rattle.tree_runs.specs.View.{Action, is-ack, is-announce, is-idle, is-leave, is-send, is-take, systemsOf}
 
@@ -79,9 +79,9 @@ module _ (t : State) (ok : Sound t) where
     abbrev open-here : Open t
     open-here = record { sound = ok; running = running }
 
-    -- a rule, a send below the limit and to another, is accepted, and leads to the same systems
+    -- a rule, a send below the limit, is accepted, and leads to the same systems
     pub rule-accepted :
-        (k i j : ℕ) (u : Systems (t .n)) → Action a0 (shown t) u (kindOf k) i j → SendAllowed t k i j
+        (k i j : ℕ) (u : Systems (t .n)) → Action a0 (shown t) u (kindOf k) i j → BelowLimit t k
         → AcceptsStep t k i j × (shownAfter t k i j ≡ u)
     unfolding answerOf
     rule-accepted k i j u a room =
@@ -89,29 +89,22 @@ module _ (t : State) (ok : Sound t) where
         let e = accepted t (kindOf k) i j open-here (l .rule) in
         (e, made k i j e ∙ l .there)
 
-    answered : (k i j : ℕ) (u : Systems (t .n)) → Action a0 (shown t) u (kindOf k) i j → SendAllowed t k i j → RuleAnswered t ok u
+    answered : (k i j : ℕ) (u : Systems (t .n)) → Action a0 (shown t) u (kindOf k) i j → BelowLimit t k → RuleAnswered t ok u
     answered k i j u a room = let p = rule-accepted k i j u a room in matched k i j (p .0) (p .1)
 
     inside : (i j : Addr (t .n)) → outside t Send (i .nr) (j .nr) ≡ false
     inside i j = rw (lt-leb _ _ (i .below), lt-leb _ _ (j .below))
 
-    self-7 : (i j : Addr (t .n)) → i .nr ≡ j .nr → stepOf t 1 (i .nr) (j .nr) .verdict ≡ Refused SelfMessage
-    self-7 i j e =
-        ap (λ (x : Answer). x .verdict) (sym (self-answer t Send (i .nr) (j .nr) open-here refl (inside i j) (eq-eqb _ _ e)))
-
-    spent-9 : (i j : Addr (t .n)) → i .nr ≢ j .nr → activeAt t (i .nr) ≡ true → sendLimit ≤ t .sends → stepOf t 1 (i .nr) (j .nr) .verdict ≡ Refused SendLimit
-    spent-9 i j ne act full =
+    spent-9 : (i j : Addr (t .n)) → activeAt t (i .nr) ≡ true → sendLimit ≤ t .sends → stepOf t 1 (i .nr) (j .nr) .verdict ≡ Refused SendLimit
+    spent-9 i j act full =
         ap (λ (x : Answer). x .verdict)
-        (sym (limit-answer t Send (i .nr) (j .nr) open-here refl (inside i j) (ne-eqb _ _ ne) act (le-leb _ _ full)))
+        (sym (limit-answer t Send (i .nr) (j .nr) open-here refl (inside i j) act (le-leb _ _ full)))
 
     send-answered : (u : Systems (t .n)) (i j : Addr (t .n)) → SendDAT i j (shown t) u → RuleAnswered t ok u
     send-answered u i j x =
-        elim (ℕ-discrete (i .nr) (j .nr)) [
-          | yes e ↦ to-oneself i j e x (self-7 i j e)
-          | no ne ↦ elim (decLt (t .sends) sendLimit) [
-            | yes h ↦ answered 1 (i .nr) (j .nr) u (is-send i j x) (λ _. (h, ne))
-            | no h ↦ at-limit i j x (omega arith) (spent-9 i j ne (x .active) (omega arith))
-          ]
+        elim (decLt (t .sends) sendLimit) [
+          | yes h ↦ answered 1 (i .nr) (j .nr) u (is-send i j x) (λ _. h)
+          | no h ↦ at-limit i j x (omega arith) (spent-9 i j (x .active) (omega arith))
         ]
 
     open-answered : (u : Systems (t .n)) → Step a0 (shown t) u → RuleAnswered t ok u

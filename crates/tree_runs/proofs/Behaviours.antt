@@ -2,7 +2,6 @@
 use Prim.Native.Nat.{_+_, _<_, _≤_, ℕ}
 use mathlib.Core.Bool.{cond, false}
 use mathlib.Core.List.{List, [], _++_, _∷_}
-use mathlib.Core.Logic.{_≢_}
 use mathlib.Core.Path.{_∙_, _≡_, ap, refl, subst, sym}
 use native.Mathlib.Bridge.{le-prop}
 use native.Mathlib.Omega.{arith}
@@ -10,7 +9,7 @@ use Rattle.refusal.specs.Table.{sendLimit, settle}
 use Rattle.refusal.specs.declared.Verdict.{Verdict}
 use Rattle.runs.proofs.Runs.{Run, accepted-append, kept, run-append, run-of, stop, took}
 use Rattle.runs.specs.Runs.{Accepts, Request, acceptedOf, next, runOf}
-use Rattle.tree_rules.proofs.Accepted.{Rule, accepted, sends}
+use Rattle.tree_rules.proofs.Accepted.{Rule, accepted}
 use Rattle.tree_rules.proofs.Facts.{take-cases}
 use Rattle.tree_rules.proofs.Theorems.{sound-kept, start-answered}
 use Rattle.tree_rules.specs.Answers.{verdictOf}
@@ -24,7 +23,7 @@ use Rattle.tree_runs.proofs.Steps.{action-rule, rule-action}
 use Rattle.tree_rules.proofs.Fields.{same-n, same-root}
 use Rattle.tree_runs.proofs.Trace.{closed-step}
 use Rattle.tree_runs.proofs.Traced.{may, sound-after, traced}
-use Rattle.tree_runs.specs.Agreement.{Reachable, RunTo, SendAllowed, ToAnother, initial, later, rootOf, sendsOf}
+use Rattle.tree_runs.specs.Agreement.{BelowLimit, Reachable, RunTo, initial, later, rootOf, sendsOf}
 use Rattle.tree_runs.specs.Counts.{isAnnounce, kind, tree}
 use Rattle.tree_runs.specs.DijkstraScholten.{Addr, Initial, Step, Systems, deactivate, disengage, receive-ACK, receive-DAT, send-DAT}
 use Rattle.tree_runs.specs.View.{Action, is-ack, is-announce, is-idle, is-leave, is-send, is-take, systemsOf}
@@ -58,23 +57,15 @@ sends-effect t Announce i j w = omega arith
 -- ---- a run's states are reachable
 
 module _ {N : ℕ} (a0 : Addr N) {s : Systems N} {m : ℕ} (before : Reachable a0 s m) where
-  action-reaches : {u : Systems N} {k : Kind} {i j : ℕ} → Action a0 s u k i j → (k ≡ Send → i ≢ j) → Reachable a0 u (m + sendOne k)
-  action-reaches (is-send i j x) apart = later before (send-DAT i j x) (apart refl)
-  action-reaches (is-take i k x) apart = later before (receive-DAT i k x) tt
-  action-reaches (is-idle i x) apart = later before (deactivate i x) tt
-  action-reaches (is-ack i x) apart = later before (receive-ACK i x) tt
-  action-reaches (is-leave i ne x) apart = later before (disengage i ne x) tt
-  action-reaches {u} (is-announce d e) apart =
+  action-reaches : {u : Systems N} {k : Kind} {i j : ℕ} → Action a0 s u k i j → Reachable a0 u (m + sendOne k)
+  action-reaches (is-send i j x) = later before (send-DAT i j x)
+  action-reaches (is-take i k x) = later before (receive-DAT i k x)
+  action-reaches (is-idle i x) = later before (deactivate i x)
+  action-reaches (is-ack i x) = later before (receive-ACK i x)
+  action-reaches (is-leave i ne x) = later before (disengage i ne x)
+  action-reaches {u} (is-announce d e) =
       let z : m ≡ m + 0 = omega arith in
       subst (λ n. Reachable a0 u n) z (subst (λ v. Reachable a0 v m) (sym e) before)
-
-apart-of : (t : State) (k : Kind) (i j : ℕ) → Rule t i j k → k ≡ Send → i ≢ j
-apart-of t Send i j (sends hi hj ne act lim) e = ne
-apart-of t Take i j w e = other-kind (sym e) refl
-apart-of t Idle i j w e = other-kind (sym e) refl
-apart-of t Ack i j w e = other-kind (sym e) refl
-apart-of t Leave i j w e = other-kind (sym e) refl
-apart-of t Announce i j w e = other-kind (sym e) refl
 
 step-reaches :
     (t : State) → Sound t → (k : Kind) (i j : ℕ) → Rule t i j k → {N : ℕ} (a0 : Addr N) → t .n ≡ N → t .root ≡ a0 .nr
@@ -85,7 +76,7 @@ step-reaches t ok k i j w a0 =
     here : Reachable (rootOf t ok) (systemsOf (t .n) t) (t .sends) → Reachable (rootOf t ok) (systemsOf (t .n) (effect t k i j)) (effect t k i j .sends)
     here b =
         subst (λ (m : ℕ). Reachable (rootOf t ok) (systemsOf (t .n) (effect t k i j)) m) (sym (sends-effect t k i j w))
-        (action-reaches (rootOf t ok) b (rule-action t ok k i j w) (apart-of t k i j w))
+        (action-reaches (rootOf t ok) b (rule-action t ok k i j w))
 
 run-reaches :
     {t t′ : State} {xs acc : List Request} → Run tree t xs t′ acc → Sound t → {N : ℕ} (a0 : Addr N) → t .n ≡ N → t .root ≡ a0 .nr
@@ -146,7 +137,7 @@ record One (N : ℕ) (t : State) (u : Systems N) (c : ℕ) : Type 0 where
 
 module _ (t : State) (ok : Sound t) (running : t .closed ≡ false) where
   by-rule :
-      (k i j : ℕ) (u : Systems (t .n)) → Action (rootOf t ok) (systemsOf (t .n) t) u (kindOf k) i j → SendAllowed t k i j
+      (k i j : ℕ) (u : Systems (t .n)) → Action (rootOf t ok) (systemsOf (t .n) t) u (kindOf k) i j → BelowLimit t k
       → isAnnounce (kindOf k) ≡ false → One (t .n) t u (sendOne (kindOf k))
   by-rule k i j u a room other =
       let l = action-rule t ok u (kindOf k) i j a room in
@@ -161,22 +152,22 @@ module _ (t : State) (ok : Sound t) (running : t .closed ≡ false) where
       }
 
   by-step :
-      (u : Systems (t .n)) (a : Step (rootOf t ok) (systemsOf (t .n) t) u) → ToAnother (rootOf t ok) a
+      (u : Systems (t .n)) (a : Step (rootOf t ok) (systemsOf (t .n) t) u)
       → t .sends + sendsOf (rootOf t ok) a ≤ sendLimit → One (t .n) t u (sendsOf (rootOf t ok) a)
-  by-step u (deactivate i x) w h = by-rule 3 (i .nr) 0 u (is-idle i x) (λ e. other-kind (sym e) refl) refl
-  by-step u (send-DAT i j x) w h = by-rule 1 (i .nr) (j .nr) u (is-send i j x) (λ e. (omega arith, w)) refl
-  by-step u (receive-DAT i k x) w h = by-rule 2 (i .nr) (k .nr) u (is-take i k x) (λ e. other-kind (sym e) refl) refl
-  by-step u (receive-ACK i x) w h = by-rule 4 (i .nr) 0 u (is-ack i x) (λ e. other-kind (sym e) refl) refl
-  by-step u (disengage i ne x) w h = by-rule 5 (i .nr) 0 u (is-leave i ne x) (λ e. other-kind (sym e) refl) refl
+  by-step u (deactivate i x) h = by-rule 3 (i .nr) 0 u (is-idle i x) (λ e. other-kind (sym e) refl) refl
+  by-step u (send-DAT i j x) h = by-rule 1 (i .nr) (j .nr) u (is-send i j x) (λ e. omega arith) refl
+  by-step u (receive-DAT i k x) h = by-rule 2 (i .nr) (k .nr) u (is-take i k x) (λ e. other-kind (sym e) refl) refl
+  by-step u (receive-ACK i x) h = by-rule 4 (i .nr) 0 u (is-ack i x) (λ e. other-kind (sym e) refl) refl
+  by-step u (disengage i ne x) h = by-rule 5 (i .nr) 0 u (is-leave i ne x) (λ e. other-kind (sym e) refl) refl
 
   -- the same for N and a0, and s what t shows
   one :
       {N : ℕ} (a0 : Addr N) → t .n ≡ N → t .root ≡ a0 .nr → {s : Systems N} → systemsOf N t ≡ s
-      → (u : Systems N) (a : Step a0 s u) → ToAnother a0 a → t .sends + sendsOf a0 a ≤ sendLimit → One N t u (sendsOf a0 a)
+      → (u : Systems N) (a : Step a0 s u) → t .sends + sendsOf a0 a ≤ sendLimit → One N t u (sendsOf a0 a)
   one {N} a0 size e {s} p =
-      subst (λ (v : Systems N). (u : Systems N) (a : Step a0 v u) → ToAnother a0 a → t .sends + sendsOf a0 a ≤ sendLimit → One N t u (sendsOf a0 a)) p
+      subst (λ (v : Systems N). (u : Systems N) (a : Step a0 v u) → t .sends + sendsOf a0 a ≤ sendLimit → One N t u (sendsOf a0 a)) p
       (moved
-      (λ M b. (u : Systems M) (a : Step b (systemsOf M t) u) → ToAnother b a → t .sends + sendsOf b a ≤ sendLimit → One M t u
+      (λ M b. (u : Systems M) (a : Step b (systemsOf M t) u) → t .sends + sendsOf b a ≤ sendLimit → One M t u
       (sendsOf b a)) t ok by-step a0 size e)
 
 module _ {N : ℕ} (a0 : Addr N) (small : N ≤ 16) where
@@ -206,15 +197,15 @@ module _ {N : ℕ} (a0 : Addr N) (small : N ≤ 16) where
         there = initial-start a0 small s i;
       }
 
-  run-more : {s u : Systems N} {m : ℕ} (w : RunTo a0 s m) (a : Step a0 s u) → ToAnother a0 a → m + sendsOf a0 a ≤ sendLimit → RunTo a0 u (m + sendsOf a0 a)
+  run-more : {s u : Systems N} {m : ℕ} (w : RunTo a0 s m) (a : Step a0 s u) → m + sendsOf a0 a ≤ sendLimit → RunTo a0 u (m + sendsOf a0 a)
   unfolding first
-  run-more {u = u} w a other h =
+  run-more {u = u} w a h =
       let p = traced (first a0 small) (first-sound a0 small) (w .requests) in
       more w
       (one (runOf tree (first a0 small) (w .requests)) (p .sound) (w .running) a0 (p .nodes ∙ first-n a0 small) (p .root ∙ first-root a0 small)
-      (w .there) u a other
+      (w .there) u a
       (omega (arith, w .count, h)))
 
   pub reachable-run : {u : Systems N} {m : ℕ} → Reachable a0 u m → m ≤ sendLimit → RunTo a0 u m
   reachable-run (initial i) h = empty-run i
-  reachable-run (later b a other) h = run-more (reachable-run b (omega arith)) a other h
+  reachable-run (later b a) h = run-more (reachable-run b (omega arith)) a h

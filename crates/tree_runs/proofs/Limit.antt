@@ -2,7 +2,7 @@
 use Prim.Native.Nat.{_<_, ℕ}
 use mathlib.Core.Bool.{true}
 use mathlib.Core.List.{List}
-use mathlib.Core.Logic.{_↔_, _≢_}
+use mathlib.Core.Logic.{_↔_}
 use mathlib.Core.Path.{_∙_, _≡_, ap, subst, sym}
 use native.Mathlib.Omega.{arith}
 use Rattle.refusal.specs.Table.{codeOf, sendLimit}
@@ -35,16 +35,15 @@ module _ (t : State) (o : Open t) (xs : List Request) where
   Decided k m = ((k ≡ 0) ↔ (m < sendLimit)) × ((k ≡ 9) ↔ (m ≡ sendLimit))
 
   decides :
-      Unannounced t xs → (x : Request) → kind x ≡ Send → x .i < t .n → x .j < t .n → x .i ≢ x .j → activeBy t xs (x .i) ≡ true
+      Unannounced t xs → (x : Request) → kind x ≡ Send → x .i < t .n → x .j < t .n → activeBy t xs (x .i) ≡ true
       → Decided (codeOf (tree .verdict here x)) (sendsBy t xs)
   unfolding answerOf
-  decides u x e hi hj ne act =
+  decides u x e hi hj act =
       let run : Open here = record { sound = trace .sound; running = trace .closing ∙ rw (u, o .running) } in
       let s : Sending here (x .i) (x .j) =
       record {
         sender = omega (arith, trace .nodes);
         receiver = omega (arith, trace .nodes);
-        other = ne;
         active = trace .active (x .i) ∙ act;
       } in
       let w : Decided (codeOf (verdictOf here Send (x .i) (x .j))) (here .sends) =

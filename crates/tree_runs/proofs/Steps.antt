@@ -3,7 +3,6 @@
 use Prim.Native.Nat.{_*_, _+_, _-_, _<_, ℕ}
 use lib.ListN.{getD, set}
 use mathlib.Core.Bool.{Bool, false, true}
-use mathlib.Core.Logic.{_≢_}
 use mathlib.Core.Path.{_∙_, _≡_, ap, refl, sym}
 use native.Mathlib.Omega.{arith}
 use Rattle.tree_rules.proofs.Accepted.{Conclusion, Leaver, Rule, acknowledges, announces, idles, leaves, sends, takes}
@@ -112,7 +111,7 @@ module _ (t : State) (ok : Sound t) where
       }))
 
   pub rule-action : (k : Kind) (i j : ℕ) → Rule t i j k → Action a0 s (systemsOf (t .n) (effect t k i j)) k i j
-  rule-action Send i j (sends hi hj ne act lim) =
+  rule-action Send i j (sends hi hj act lim) =
       let a : Addr (t .n) = record { nr = i; below = hi } in
       let b : Addr (t .n) = record { nr = j; below = hj } in
       is-send a b
@@ -179,10 +178,10 @@ module _ (t : State) (ok : Sound t) where
       (ap (λ (e : ℕ). λ (k : Addr (t .n)). getD (set (t .acks) e (acksAt t e + 1)) (k .nr) 0) (addr-of (engagerAt t (a .nr)) (x .upstream .nr) (x .engager-is))
       ∙ (acks-but (x .upstream) (acksAt t (x .upstream .nr) + 1) ∙ sym (x .ACK′)))
 
-  pub action-rule : (u : Systems (t .n)) (k : Kind) (i j : ℕ) → Action a0 s u k i j → (k ≡ Send → (t .sends < sendLimit) × (i ≢ j)) → Led u k i j
+  pub action-rule : (u : Systems (t .n)) (k : Kind) (i j : ℕ) → Action a0 s u k i j → (k ≡ Send → t .sends < sendLimit) → Led u k i j
   action-rule u k i j (is-send a b x) room =
       record {
-        rule = sends (a .below) (b .below) (room refl .1) (x .active) (room refl .0);
+        rule = sends (a .below) (b .below) (x .active) (room refl);
         there =
             same-systems (sym (x .unchanged-active)) (sym (x .unchanged-engager)) (unacked-but a (unackedAt t (a .nr) + 1) ∙ sym (x .unAcked′))
             (transit-but a b (transitAt t (a .nr) (b .nr) + 1) ∙ sym (x .DAT′)) (sym (x .unchanged-ACK));

@@ -52,7 +52,7 @@ module _ (t : State) (f : Facts t) where
   pub transit-step :
       (k : Kind) (i j : ℕ) → Rule t i j k → (b c : ℕ) → c < 16
       → transitAt (effect t k i j) b c + takeBetween k i j b c ≡ transitAt t b c + sendBetween k i j b c
-  transit-step Send i j (sends hi hj ne act lim) b c hc =
+  transit-step Send i j (sends hi hj act lim) b c hc =
       let i16 : i < 16 = in-range t f i hi in
       let j16 : j < 16 = in-range t f j hj in
       omega (arith, raised-at (t .transit) (i * 16 + j) (b * 16 + c) (in-transit t f i j i16 j16), pair-ind b c i j hc j16)

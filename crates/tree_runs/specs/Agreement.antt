@@ -4,9 +4,9 @@
 use Prim.Native.Nat.{_+_, _<_, _≤_, ℕ}
 use mathlib.Core.Bool.{false}
 use mathlib.Core.List.{List}
-use mathlib.Core.Logic.{_↔_, _≢_, _⊎_}
+use mathlib.Core.Logic.{_↔_, _⊎_}
 use mathlib.Core.Path.{_≡_}
-use Rattle.refusal.specs.declared.Refusal.the-variants.{SelfMessage, SendLimit}
+use Rattle.refusal.specs.declared.Refusal.the-variants.{SendLimit}
 use Rattle.refusal.specs.declared.Verdict.the-variants.{Accepted, Refused}
 use Rattle.runs.specs.Runs.{Request, acceptedOf, runOf}
 use Rattle.tree_rules.specs.Answers.{stepOf}
@@ -42,15 +42,13 @@ rootOf t ok = record { nr = t .root; below = ok .root-in }
 abbrev pub AcceptsStep : State → ℕ → ℕ → ℕ → Type 0
 AcceptsStep t k i j = stepOf t k i j .verdict ≡ Accepted
 
--- what document 01 asks of a send besides: below the limit, and not to oneself
-abbrev pub SendAllowed : State → ℕ → ℕ → ℕ → Type 0
-SendAllowed t k i j = kindOf k ≡ Send → (t .sends < sendLimit) × (i ≢ j)
+-- one more send is below the limit, where the request is a send
+abbrev pub BelowLimit : State → ℕ → Type 0
+BelowLimit t k = kindOf k ≡ Send → t .sends < sendLimit
 
--- a step of document 003 to u is answered: some request is accepted and leads to u; or it is a message to oneself, refused with 7, or a
--- send at the limit, refused with 9
+-- a step of document 003 to u is answered: some request is accepted and leads to u; or it is a send at the limit, refused with 9
 pub data RuleAnswered (t : State) (ok : Sound t) (u : Systems (t .n)) : Type 0 where
   matched : (k i j : ℕ) → AcceptsStep t k i j → shownAfter t k i j ≡ u → RuleAnswered t ok u
-  to-oneself : (i j : Addr (t .n)) → i .nr ≡ j .nr → SendDAT i j (shown t) u → stepOf t 1 (i .nr) (j .nr) .verdict ≡ Refused SelfMessage → RuleAnswered t ok u
   at-limit : (i j : Addr (t .n)) → SendDAT i j (shown t) u → sendLimit ≤ t .sends → stepOf t 1 (i .nr) (j .nr) .verdict ≡ Refused SendLimit → RuleAnswered t ok u
 
 pub record StepsAgree (t : State) (ok : Sound t) : Type 0 where
@@ -61,7 +59,7 @@ pub record StepsAgree (t : State) (ok : Sound t) : Type 0 where
   pub accepted-is-rule : (k i j : ℕ) → AcceptsStep t k i j → Action (rootOf t ok) (shown t) (shownAfter t k i j) (kindOf k) i j
   -- a rule from a state that is not closed is accepted, and leads to the same systems
   pub rule-is-accepted :
-      t .closed ≡ false → (k i j : ℕ) (u : Systems (t .n)) → Action (rootOf t ok) (shown t) u (kindOf k) i j → SendAllowed t k i j
+      t .closed ≡ false → (k i j : ℕ) (u : Systems (t .n)) → Action (rootOf t ok) (shown t) u (kindOf k) i j → BelowLimit t k
       → AcceptsStep t k i j × (shownAfter t k i j ≡ u)
   -- so an accepted request is a step, or the announcement, which changes nothing; a refused one changes nothing
   pub accepted-is-step :
@@ -90,18 +88,10 @@ sendsOf a0 (receive-DAT j k x) = 0
 sendsOf a0 (receive-ACK j x) = 0
 sendsOf a0 (disengage j ne x) = 0
 
--- the step is no message to oneself
-abbrev pub ToAnother : {N : ℕ} (a0 : Addr N) {s t : Systems N} → Step a0 s t → Type 0
-ToAnother a0 (deactivate j x) = Unit
-ToAnother a0 (send-DAT j k x) = j .nr ≢ k .nr
-ToAnother a0 (receive-DAT j k x) = Unit
-ToAnother a0 (receive-ACK j x) = Unit
-ToAnother a0 (disengage j ne x) = Unit
-
--- systems that the rules reach from the initial ones, a message to oneself apart, with the number of messages sent on the way
+-- systems that the rules reach from the initial ones, with the number of messages sent on the way
 pub data Reachable {N : ℕ} (a0 : Addr N) : Systems N → ℕ → Type 0 where
   initial : {s : Systems N} → Initial a0 s → Reachable a0 s 0
-  later : {s t : Systems N} {m : ℕ} → Reachable a0 s m → (x : Step a0 s t) → ToAnother a0 x → Reachable a0 t (m + sendsOf a0 x)
+  later : {s t : Systems N} {m : ℕ} → Reachable a0 s m → (x : Step a0 s t) → Reachable a0 t (m + sendsOf a0 x)
 
 -- a run from the start, every request of it accepted and none an announcement, that ends where it shows u, with m sends
 pub record RunTo {N : ℕ} (a0 : Addr N) (u : Systems N) (m : ℕ) : Type 0 where

@@ -1,6 +1,6 @@
 -- The algorithm-level program of document 003, by itself, in its own names and order. Nothing of the tree's code or definitions is in it.
 -- A system's variable is a field of `Systems`, a function of the address j; the fifo channel is its counts of messages in transit: DAT
--- from an address to another, ACK to an address. A rule relates the systems before, `s`, to those after, `t`; a field of its record is a
+-- from an address to an address, itself too, ACK to an address. A rule relates the systems before, `s`, to those after, `t`; a field of its record is a
 -- line of the rule, and a constructor is a branch. Left out: weak fairness, and with it A2, which speaks of what happens in the end.
 use Prim.Native.Nat.{_+_, _-_, _<_, _≤_, suc, zero, ℕ}
 use lib.Dec.{eqb}

@@ -67,9 +67,9 @@ pub record LimitCounted : Type 0 where
   pub only :
       (t : State) → Open t → (xs : List Request) (x : Request) → codeOf (tree .verdict (runOf tree t xs) x) ≡ 9
       → (kind x ≡ Send) × (sendsBy t xs ≡ sendLimit)
-  -- a send from an active node to another, before the announcement, is accepted exactly if fewer are made, and meets 9 exactly if so many are
+  -- a send from an active node, to any node, before the announcement, is accepted exactly if fewer are made, and meets 9 exactly if so many are
   pub decides :
-      (t : State) → Open t → (xs : List Request) → Unannounced t xs → (x : Request) → kind x ≡ Send → x .i < t .n → x .j < t .n → x .i ≢ x .j
+      (t : State) → Open t → (xs : List Request) → Unannounced t xs → (x : Request) → kind x ≡ Send → x .i < t .n → x .j < t .n
       → activeBy t xs (x .i) ≡ true
       → ((codeOf (tree .verdict (runOf tree t xs) x) ≡ 0) ↔ (sendsBy t xs < sendLimit))
       × ((codeOf (tree .verdict (runOf tree t xs) x) ≡ 9) ↔ (sendsBy t xs ≡ sendLimit))

@@ -1,6 +1,7 @@
 //! How often each number was the answer to a call, on all sizes and on the large ones.
 
 use second::bounds::calls::{ACCEPTED_PART, ANSWER, ANSWER_ON_LARGE};
+use second::refusal::Refusal;
 use second::report::Report;
 use second::sizes::range_name;
 use std::ops::RangeInclusive;
@@ -23,7 +24,9 @@ impl Answers {
         }
     }
 
+    /// No call answers with the retired number.
     pub fn count(&mut self, number: u8) {
+        assert_ne!(u32::from(number), Refusal::RETIRED, "{}", self.name);
         self.counts[usize::from(number)] += 1;
     }
 

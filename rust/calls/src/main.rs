@@ -1,9 +1,10 @@
 //! Compares the proved functions, called through a static library, with the second implementation: starts; the steps of whole runs, which
 //! are guided by their states; wild states; rings that are made to be sound, or not to be by little; the ring's driver; every value of each byte
 //! that stands for a truth; the tree's text, written, read back and damaged; tables of eight updates, through the header's functions; and walks the
-//! states of EWD998 for N = 3 with the proved step, against document 001's table. Takes are of every number of messages, by nodes to which none to
-//! more than a take may be of are on their way. What is lent to be written holds noise before each call, and a refusal must leave every byte of it;
-//! what is lent to be read is compared after each call too.
+//! states of EWD998 for N = 3 with the proved step, against document 001's table (the listing's own SendMsg: no message to oneself). Takes are of
+//! every number of messages, by nodes to which none to more than a take may be of are on their way. A node sends to itself now and then, a lone one
+//! always; trees that hold such messages are made to be sound, or not to be by little. What is lent to be written holds noise before each call, and a
+//! refusal must leave every byte of it; what is lent to be read is compared after each call too.
 //! It prints what was met, each figure with its bound, and fails if one is not within it.
 
 mod answers;
@@ -12,6 +13,7 @@ mod lent_table;
 mod near_counts;
 mod near_misses;
 mod numbers;
+mod own_trees;
 mod requests;
 mod rings;
 mod same;

@@ -232,7 +232,7 @@ const PASSED: [(&str, Change, Fault); 7] = [
 ];
 
 /// Where the run is announced: sound if it were not, and if the test of announce forgot one of its six. (There is none with a message on its
-/// way to node 0 alone: Safra's four refuse it.)
+/// way to node 0 alone: Safra's four refuse it, and on one node the sum is above 0 too.)
 const CLOSED: [(Nodes, (&str, Change, Fault)); 5] = [
     (
         SEVERAL,

@@ -32,6 +32,15 @@ impl Course {
         }
     }
 
+    /// Of an update, which shares the calls of its table with others: not as long, so that it is announced.
+    pub fn of_update(random: &mut Rng) -> Self {
+        let busy = 10 + random.below(60);
+        Self {
+            busy,
+            ..Self::new(random)
+        }
+    }
+
     /// The next request; none once the run is over. A busy run is not terminated.
     pub fn next(&mut self, state: &dyn Model, closed: bool, random: &mut Rng) -> Option<Request> {
         if closed {
@@ -39,7 +48,7 @@ impl Course {
             return Some(request(state, false, random));
         }
         self.busy = self.busy.saturating_sub(1);
-        let busy = self.busy > 0 && state.n() > 1;
+        let busy = self.busy > 0;
         loop {
             let request = request(state, !busy, random);
             if !(busy && state.terminates(request)) {

@@ -6,9 +6,12 @@ use crate::requests::{no_counts, request, takes, waiting, Course};
 use crate::same::{other, same_soundness, same_start, same_step};
 use crate::{fail, proved};
 use second::bounds::answers::{IS_SOUND, OF_SOUND, RING_DRIVE, RING_START};
-use second::bounds::calls::{ANNOUNCED, ANSWER, BROKEN, ON_RINGS, STARTS, STEPS, TAKES};
+use second::bounds::calls::{
+    ANNOUNCED, ANSWER, BROKEN, ON_RINGS, OWN_ON_RINGS, STARTS, STEPS, TAKES,
+};
 use second::bounds::LARGE_RINGS;
 use second::generate::Rng;
+use second::own::Own;
 use second::refusal::Refusal;
 use second::report::Report;
 use second::request::{Request, SEND_LIMIT};
@@ -40,6 +43,7 @@ struct Rings {
     sizes: Sizes,
     announced: usize,
     takes: Takes,
+    own: Own,
     wild_steps: BySize,
     soundness: BySize,
     /// Soundness of states with several fields changed that still agree in part.
@@ -60,6 +64,7 @@ impl Rings {
             sizes: Sizes::default(),
             announced: 0,
             takes: Takes::default(),
+            own: Own::default(),
             wild_steps: answers("steps of wild states"),
             soundness: answers("soundness of wild states"),
             balanced: answers("soundness of states in balance"),
@@ -101,6 +106,7 @@ impl Rings {
             let was_open = !ring.closed;
             if was_open {
                 self.takes.count(&ring, request, told == 0);
+                self.own.count_ring(&ring, request, usize::from(told));
             }
             let _ = ring.step(request);
             self.announced += usize::from(ring.closed && was_open);
@@ -168,6 +174,7 @@ impl Rings {
         report.at_least("ring: runs announced", self.announced, ANNOUNCED);
         self.sizes.report("ring", &ON_RINGS, MAX_NODES, report);
         self.takes.report("ring", &TAKES, report);
+        self.own.report("ring", &OWN_ON_RINGS, report);
         self.steps.report_half(&OF_SOUND, report);
         self.wild_steps.report(&[3], report);
         self.soundness.report_all(&IS_SOUND, report);

@@ -11,6 +11,7 @@ use second::bounds::calls::BROKEN;
 use second::bounds::tables::*;
 use second::bounds::LARGE_RINGS;
 use second::generate::Rng;
+use second::own::Own;
 use second::refusal::Refusal;
 use second::report::Report;
 use second::request::{Request, SEND_LIMIT};
@@ -45,6 +46,7 @@ struct Tables {
     wild_steps: Answers,
     sizes: Sizes,
     takes: Takes,
+    own: Own,
     announced: usize,
     fresh_when_open: usize,
     fresh_when_announced: usize,
@@ -87,8 +89,7 @@ impl Running {
     /// Two updates that have nearly as many sends between them as may be, or as many.
     fn near_send_limit(random: &mut Rng) -> Self {
         let mut running = Self::new(random);
-        let n = running.n.max(2);
-        running.n = n;
+        let n = running.n;
         let first = random.below(UPDATES);
         let second = (first + 1 + random.below(UPDATES - 1)) % UPDATES;
         let in_all = SEND_LIMIT - random.below(4) as u32;
@@ -96,7 +97,7 @@ impl Running {
         for (update, sends) in [(first, sends), (second, in_all - sends)] {
             let ring = ring_with_sends(n, sends, random);
             running.lent.set(update, &LentRing::of(&ring));
-            running.courses[update] = Some(Course::new(random));
+            running.courses[update] = Some(Course::of_update(random));
         }
         running
     }
@@ -109,7 +110,7 @@ impl Running {
                 let sends = waiting(random) + random.below(5) as u32;
                 let ring = ring_with_sends(running.n, sends, random);
                 running.lent.set(update, &LentRing::of(&ring));
-                running.courses[update] = Some(Course::new(random));
+                running.courses[update] = Some(Course::of_update(random));
             }
         }
         running
@@ -147,6 +148,7 @@ impl Tables {
             wild_steps: Answers::new("table: steps of wild tables"),
             sizes: Sizes::default(),
             takes: Takes::default(),
+            own: Own::default(),
             announced: 0,
             fresh_when_open: 0,
             fresh_when_announced: 0,
@@ -210,6 +212,7 @@ impl Tables {
         self.sizes.count(ring.n, told == 0);
         if !ring.closed {
             self.takes.count(ring, request, told == 0);
+            self.own.count_ring(ring, request, usize::from(told));
         }
         self.accepted[update] += usize::from(told == 0);
         running.lent = next;
@@ -269,7 +272,7 @@ impl Tables {
         running.lent = next;
         if told == 0 {
             running.n = n;
-            running.courses[update] = Some(Course::new(random));
+            running.courses[update] = Some(Course::of_update(random));
             running.freed |= running.limited.is_some_and(|limited| limited != update);
             self.accepted[update] += 1;
             self.fresh_when_open += usize::from(before.as_ref().is_some_and(|ring| !ring.closed));
@@ -329,6 +332,7 @@ impl Tables {
         self.wild_steps.report(&[3], report);
         self.sizes.report("table", &ON_TABLES, SIZES, report);
         self.takes.report("table", &TAKES, report);
+        self.own.report("table", &OWN, report);
         report.at_least("table: updates announced", self.announced, ANNOUNCED);
         let fresh = [
             ("open", self.fresh_when_open),

@@ -90,7 +90,7 @@ fn has_two_digits(text: &[u8]) -> bool {
 pub fn grown(random: &mut Rng) -> Tree {
     let n = 1 + random.below(MAX_NODES);
     let mut tree = Tree::start(n, random.below(n)).expect("a start in range");
-    if n > 1 && random.chance(50) {
+    if random.chance(50) {
         for _ in 0..random.below(3 * n) {
             hand_over(&mut tree, random);
         }
@@ -108,11 +108,11 @@ pub fn grown(random: &mut Rng) -> Tree {
     tree
 }
 
-/// A message from an active node, taken at once.
+/// A message from an active node, to itself now and then, taken at once.
 fn hand_over(tree: &mut Tree, random: &mut Rng) {
     let n = tree.n;
     let i = random.node(n, |i| tree.active[i]).expect("an active root");
-    let j = random.other_node(n, i);
+    let j = random.other_end(n, i);
     for request in [Request::new(SEND, i, j), Request::new(TAKE, j, i)] {
         tree.step(request).expect("an allowed step");
     }

@@ -2,13 +2,15 @@
 
 use crate::answers::{Answers, BySize};
 use crate::lent::LentTree;
+use crate::own_trees::OwnTrees;
 use crate::proved;
 use crate::requests::{no_counts, request, Course};
 use crate::same::{other, same_soundness, same_start, same_step};
 use second::bounds::answers::{IS_SOUND, OF_SOUND, TREE_START};
-use second::bounds::calls::{ANNOUNCED, BROKEN, ON_TREES, STARTS, STEPS};
+use second::bounds::calls::{ANNOUNCED, BROKEN, ON_TREES, OWN_ON_TREES, STARTS, STEPS};
 use second::bounds::LARGE_TREES;
 use second::generate::Rng;
+use second::own::Own;
 use second::report::Report;
 use second::request::{Request, SEND_LIMIT};
 use second::sizes::Sizes;
@@ -37,6 +39,8 @@ struct Trees {
     steps: BySize,
     sizes: Sizes,
     announced: usize,
+    own: Own,
+    own_trees: OwnTrees,
     wild_steps: BySize,
     soundness: BySize,
     /// Soundness of states with several fields changed that still agree in part.
@@ -54,6 +58,8 @@ impl Trees {
             steps: answers("steps of runs"),
             sizes: Sizes::default(),
             announced: 0,
+            own: Own::default(),
+            own_trees: OwnTrees::new(seed),
             wild_steps: answers("steps of wild states"),
             soundness: answers("soundness of wild states"),
             balanced: answers("soundness of states in balance"),
@@ -80,7 +86,7 @@ impl Trees {
         self.starts.count(told);
     }
 
-    /// A run, each step compared, and now and then a wild state.
+    /// A run, each step compared; now and then a wild state, and states with messages of nodes to themselves.
     fn run(&mut self, random: &mut Rng) {
         let mut tree = started(random);
         if random.chance(15) {
@@ -92,10 +98,16 @@ impl Trees {
             self.steps.count(tree.n, told);
             self.sizes.count(tree.n, told == 0);
             let was_open = !tree.closed;
+            if was_open {
+                self.own.count_tree(&tree, request, usize::from(told));
+            }
             let _ = tree.step(request);
             self.announced += usize::from(tree.closed && was_open);
             if random.chance(20) {
                 self.wild(&tree, random);
+            }
+            if random.chance(3) && !tree.closed {
+                self.own_trees.compare(&tree, random);
             }
         }
         let noise = LentTree::noise(random);
@@ -128,6 +140,8 @@ impl Trees {
         report.at_least("tree: runs announced", self.announced, ANNOUNCED);
         self.sizes.report("tree", &ON_TREES, MAX_NODES, report);
         self.steps.report_half(&OF_SOUND, report);
+        self.own.report("tree", &OWN_ON_TREES, report);
+        self.own_trees.report(report);
         self.wild_steps.report(&[3], report);
         self.soundness.report_all(&IS_SOUND, report);
         self.balanced.report_all(&IS_SOUND, report);

@@ -1,4 +1,5 @@
-//! Walks the states of EWD998 for N = 3 and prints the figures of document 001's table.
+//! Walks the states of EWD998 for N = 3 and prints the figures of document 001's table. The walk keeps to the listing's own
+//! SendMsg, no message to oneself; since request Q-4 the ring allows one.
 
 use second::report::Report;
 use second::request::Request;
@@ -7,6 +8,7 @@ use second::walk::walk;
 use std::process::ExitCode;
 
 fn main() -> ExitCode {
+    println!("the listing's own SendMsg: no message to oneself; since Q-4 the ring allows one");
     let mut report = Report::default();
     walk(own_step).report("this library's step", &mut report);
     if report.print() {

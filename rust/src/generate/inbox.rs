@@ -13,7 +13,7 @@ const MOVES: usize = 5;
 /// A sender and a receiver, and more messages than one take may be of.
 pub fn delivery(rng: &mut Rng, n: usize) -> (usize, usize, usize) {
     let receiver = rng.below(n);
-    let sender = rng.other_node(n, receiver);
+    let sender = rng.other_end(n, receiver);
     (sender, receiver, TAKE_LIMIT + 1 + rng.below(BEYOND))
 }
 
@@ -35,7 +35,7 @@ pub fn emptying(rng: &mut Rng, messages: usize) -> [usize; 8] {
     ]
 }
 
-/// A ring of two nodes or more, one of which empties its inbox.
+/// A ring of which one node empties its inbox.
 pub fn full_inbox(rng: &mut Rng, n: usize) -> Writer {
     let (sender, receiver, messages) = delivery(rng, n);
     let black: Vec<usize> = (0..n).filter(|_| rng.chance(30)).collect();

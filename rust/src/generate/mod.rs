@@ -92,10 +92,10 @@ fn ring_size(rng: &mut Rng) -> usize {
     }
 }
 
-/// Two nodes or more, every other time more than most logs have.
-fn several_nodes(rng: &mut Rng, round: usize) -> usize {
+/// Every other time more nodes than most logs have.
+fn often_large(rng: &mut Rng, round: usize) -> usize {
     match round % 2 {
-        0 => ring_size(rng).max(2),
+        0 => ring_size(rng),
         _ => *LARGE_RINGS.start() + rng.below(LARGE_RINGS.count()),
     }
 }
@@ -151,7 +151,7 @@ pub fn log(seed: u64, size: usize) -> Vec<u8> {
             writer.end(&mut rng, 0, NEAR_THE_END)
         }
         12 => {
-            let n = several_nodes(&mut rng, round);
+            let n = often_large(&mut rng, round);
             full_inbox(&mut rng, n).end(&mut rng, 0, NEAR_THE_END)
         }
         cause => refused_start(&mut rng, cause - 8 - LATE, round),
@@ -189,7 +189,7 @@ pub fn updates_log(seed: u64, size: usize) -> Vec<u8> {
         }
         5 => update_limit(&mut rng, round),
         6 => {
-            let n = several_nodes(&mut rng, round);
+            let n = often_large(&mut rng, round);
             let mut updates = Updates::new(&mut rng, n);
             updates.full_inbox(&mut rng);
             updates.finish()
@@ -229,9 +229,9 @@ fn long_end(rng: &mut Rng, mut log: Vec<u8>) -> Vec<u8> {
 /// not taken. Then it is, mostly by node 0, somewhere in a round that may be white; its
 /// receiver becomes passive at once, or stays active until the token moves no more.
 fn late_receipt(rng: &mut Rng, lines: usize) -> Vec<u8> {
-    let n = ring_size(rng).max(2);
+    let n = ring_size(rng);
     let receiver = if rng.chance(60) { 0 } else { rng.below(n) };
-    let sender = rng.other_node(n, receiver);
+    let sender = rng.other_end(n, receiver);
     let black: Vec<usize> = (0..n).filter(|_| rng.chance(30)).collect();
     let mut writer = Writer::ring(n, &[sender], &black);
     writer.request(Request::new(SEND, sender, receiver));

@@ -91,8 +91,9 @@ pub trait Model {
             0 => self.announcer(),
             _ => rng.below(n),
         };
+        let passive = rng.node(n, |i| !self.active()[i]).unwrap_or(i);
         match rng.below(10) {
-            0 | 1 => Request::new(SEND, i, i),
+            0 | 1 => Request::new(SEND, passive, passive),
             2 | 3 => self.beyond(rng),
             4 => Request::new(ANNOUNCE, 0, 0),
             5 | 6 => self.any_take(rng),
@@ -197,12 +198,11 @@ fn about(rng: &mut Rng, pending: usize) -> usize {
 fn ring_allowed_of(ring: &Ring, class: usize, rng: &mut Rng) -> Option<Request> {
     let active = |i: usize| ring.active[i];
     match class {
-        SEND if ring.n > 1 => {
+        SEND => {
             let i = rng.node(ring.n, active)?;
-            let j = rng.other_node(ring.n, i);
+            let j = rng.other_end(ring.n, i);
             Some(Request::new(SEND, i, j))
         }
-        SEND => None,
         TAKE => {
             let i = rng.node(ring.n, |i| ring.pending[i] > 0)?;
             Some(Request::new(TAKE, i, 1))
@@ -269,12 +269,11 @@ impl Model for Tree {
 fn tree_allowed_of(tree: &Tree, class: usize, rng: &mut Rng) -> Option<Request> {
     let n = tree.n;
     match class {
-        SEND if n > 1 => {
+        SEND => {
             let i = rng.node(n, |i| tree.active[i])?;
-            let j = rng.other_node(n, i);
+            let j = rng.other_end(n, i);
             Some(Request::new(SEND, i, j))
         }
-        SEND => None,
         TAKE => {
             let pair = rng.node(n * n, |pair| tree.in_transit[pair / n][pair % n] > 0)?;
             Some(Request::new(TAKE, pair % n, pair / n))

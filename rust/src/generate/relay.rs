@@ -49,12 +49,12 @@ impl Relay {
         self.writer.request(Request::new(kind, i, j));
     }
 
-    /// The receiver, which is active, sends the message on, to node 0 now and then.
+    /// The receiver, which is active, sends the message on, to node 0 or to itself now and then.
     fn send(&mut self, rng: &mut Rng) {
         let sender = self.receiver;
         self.receiver = match rng.below(5) {
             0 if sender > 0 => 0,
-            _ => rng.other_node(self.n, sender),
+            _ => rng.other_end(self.n, sender),
         };
         self.request(SEND, sender, self.receiver);
         self.request(IDLE, sender, 0);

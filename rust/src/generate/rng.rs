@@ -1,5 +1,8 @@
 //! Random numbers from a seed.
 
+/// How many messages in a hundred a node sends to itself.
+const TO_ONESELF: usize = 10;
+
 /// Splitmix64.
 pub struct Rng(u64);
 
@@ -32,6 +35,15 @@ impl Rng {
     /// A node below `n`, which is above 1, other than `i`.
     pub fn other_node(&mut self, n: usize, i: usize) -> usize {
         (i + 1 + self.below(n - 1)) % n
+    }
+
+    /// The other end of a message that `i` sends or receives: about one time in ten, and where it is alone, `i` itself.
+    pub fn other_end(&mut self, n: usize, i: usize) -> usize {
+        if n == 1 || self.chance(TO_ONESELF) {
+            i
+        } else {
+            self.other_node(n, i)
+        }
     }
 
     /// A node below `n` of which `wanted` holds, searched from a random one on.

@@ -151,7 +151,7 @@ impl Updates {
         }
     }
 
-    /// An update of two nodes or more, one of which empties its inbox, and lines of others now and then.
+    /// An update of which one node empties its inbox, and lines of others now and then.
     pub fn full_inbox(&mut self, rng: &mut Rng) {
         let update = rng_update(rng);
         let (sender, receiver, messages) = delivery(rng, self.n);

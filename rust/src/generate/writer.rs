@@ -127,8 +127,6 @@ impl Writer {
             };
             if winding_down || !self.model().terminates(request) {
                 self.spell(rng, request, mix);
-            } else if self.model().n() == 1 {
-                return;
             }
             if mix.eager > 0 && self.model().is_nearly_over() && rng.chance(mix.eager) {
                 self.request(Request::new(ANNOUNCE, 0, 0));

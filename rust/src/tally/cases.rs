@@ -2,6 +2,7 @@
 
 use super::steps::Words;
 use crate::bounds::{logs, Asked, Met, LARGE_RINGS, LARGE_TREES};
+use crate::own::Own;
 use crate::report::Report;
 use crate::request::{Request, ANNOUNCE, LEAVE, PASS, PROBE, TAKE};
 use crate::ring::{Ring, COLOR_BYTES};
@@ -28,13 +29,16 @@ pub trait Cases: Default {
         [request.i, request.j]
     }
 
-    /// Counts a request to an open run.
-    fn count(&mut self, state: &Self::State, request: Request, accepted: bool);
+    /// Counts the answer to a request to an open run.
+    fn count(&mut self, state: &Self::State, request: Request, answer: usize);
 
     fn report(&self, name: &str, least: &Met, report: &mut Report);
 
     /// Of takes by their numbers of messages, on all sizes or on the large ones.
     fn report_takes(&self, _name: &str, _is_large: bool, _report: &mut Report) {}
+
+    /// Of messages to oneself, likewise.
+    fn report_own(&self, name: &str, is_large: bool, report: &mut Report);
 }
 
 /// The place of the only truth, if there is one alone.
@@ -76,6 +80,7 @@ pub struct RingCases {
     blackened: [usize; COLOR_BYTES],
     behind: Decided<1>,
     takes: Takes,
+    own: Own,
 }
 
 impl RingCases {
@@ -115,8 +120,10 @@ impl Cases for RingCases {
         }
     }
 
-    fn count(&mut self, ring: &Ring, request: Request, accepted: bool) {
+    fn count(&mut self, ring: &Ring, request: Request, answer: usize) {
+        let accepted = answer == 0;
         self.takes.count(ring, request, accepted);
+        self.own.count_ring(ring, request, answer);
         let (token, sum) = (ring.token, ring.token.q + ring.counter(0));
         let home = token.pos == 0;
         let node_black = ring.is_black(0);
@@ -175,6 +182,15 @@ impl Cases for RingCases {
         };
         self.takes.report(of, asked, report);
     }
+
+    fn report_own(&self, of: &str, is_large: bool, report: &mut Report) {
+        let asked = if is_large {
+            &logs::OWN_ON_LARGE_RINGS
+        } else {
+            &logs::OWN_ON_RINGS
+        };
+        self.own.report(of, asked, report);
+    }
 }
 
 #[derive(Default)]
@@ -182,6 +198,7 @@ pub struct TreeCases {
     announce: Decided<2>,
     leave: Decided<4>,
     take: Decided<2>,
+    own: Own,
 }
 
 impl Cases for TreeCases {
@@ -197,7 +214,9 @@ impl Cases for TreeCases {
         tree.n
     }
 
-    fn count(&mut self, tree: &Tree, request: Request, accepted: bool) {
+    fn count(&mut self, tree: &Tree, request: Request, answer: usize) {
+        let accepted = answer == 0;
+        self.own.count_tree(tree, request, answer);
         let (root, i) = (tree.root, request.i);
         match request.kind {
             ANNOUNCE if !accepted => self
@@ -231,5 +250,14 @@ impl Cases for TreeCases {
             "take that is acknowledged at once",
         ];
         self.take.report(of, names, least.often, report);
+    }
+
+    fn report_own(&self, of: &str, is_large: bool, report: &mut Report) {
+        let asked = if is_large {
+            &logs::OWN_ON_LARGE_TREES
+        } else {
+            &logs::OWN_ON_TREES
+        };
+        self.own.report(of, asked, report);
     }
 }

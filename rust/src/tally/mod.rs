@@ -13,6 +13,7 @@ use crate::bounds::logs::{
 use crate::bounds::{self, Met};
 use crate::forms;
 use crate::log::{Log, Run};
+use crate::refusal::Refusal;
 use crate::report::Report;
 use crate::request::Request;
 use crate::sizes::{range_name, Sizes};
@@ -22,7 +23,7 @@ use starts::Starts;
 use steps::{Steps, Words};
 use updates::Updates;
 
-/// Numbers of answers: 0 is an accepted line, 1 to 13 are the refusals.
+/// Numbers of answers: 0 is an accepted line, 1 to 13 but 7 are the refusals.
 const ANSWERS: usize = 14;
 const CLOSED: usize = 4;
 const UNKNOWN_NODE: usize = 6;
@@ -35,16 +36,18 @@ pub fn split(bytes: &[u8]) -> impl Iterator<Item = &[u8]> {
     bytes.split_inclusive(|&byte| byte == b'\n')
 }
 
-/// The number of an answer: `(ok LINE)` is 0, `(no LINE NUMBER)` its last number.
+/// The number of an answer: `(ok LINE)` is 0, `(no LINE NUMBER)` its last number, which is never 7.
 fn number_of(answer: &[u8]) -> usize {
     if answer.starts_with(b"(ok ") {
         return 0;
     }
     let last = answer.rsplit(|&byte| byte == b' ').next();
     let digits = last.unwrap_or_default().iter();
-    digits
+    let number = digits
         .filter(|byte| byte.is_ascii_digit())
-        .fold(0, |value, digit| 10 * value + usize::from(digit - b'0'))
+        .fold(0, |value, digit| 10 * value + usize::from(digit - b'0'));
+    assert_ne!(number, Refusal::RETIRED as usize, "a retired answer");
+    number
 }
 
 /// What one detector met, on all sizes or on some.
@@ -61,7 +64,7 @@ impl<C: Cases> Part<C> {
         let kind = request.map_or(0, |request| request.kind);
         self.steps.count(kind, answer);
         if let Some(request) = request.filter(|_| answer != CLOSED) {
-            self.cases.count(state, request, answer == 0);
+            self.cases.count(state, request, answer);
         }
         if let Some(request) = request.filter(|_| answer == UNKNOWN_NODE) {
             self.count_cut(C::n(state), request);
@@ -111,6 +114,8 @@ impl<C: Cases> Detector<C> {
         self.large.report(&name, &C::WORDS, &ON_LARGE, report);
         self.all.cases.report_takes(C::NAME, false, report);
         self.large.cases.report_takes(&name, true, report);
+        self.all.cases.report_own(C::NAME, false, report);
+        self.large.cases.report_own(&name, true, report);
     }
 }
 
@@ -209,5 +214,22 @@ impl Tally {
             self.misplaced,
             bounds::updates::CAUSES,
         );
+    }
+}
+
+#[cfg(test)]
+mod tests {
+    use super::{number_of, Tally};
+
+    #[test]
+    fn numbers_of_answers() {
+        let answers: [&[u8]; 4] = [b"(ok 7)\n", b"(no 7 8)\n", b"(no 7 13)\n", b"(no 17 4)\n"];
+        assert_eq!(answers.map(number_of), [0, 8, 13, 4]);
+    }
+
+    #[test]
+    #[should_panic(expected = "a retired answer")]
+    fn a_retired_answer_fails() {
+        Tally::default().count(b"(ring 2)\n(send 1 1)\n", b"(ok 1)\n(no 2 7)\n");
     }
 }

@@ -6,6 +6,7 @@ use crate::bounds::logs::WIDTHS;
 use crate::bounds::updates::*;
 use crate::forms::{self, First, RingStart, Wrapped};
 use crate::log::{UpdatesRun, LINE_BYTES};
+use crate::own::Own;
 use crate::report::Report;
 use crate::request::{Request, ANNOUNCE};
 use crate::ring::Ring;
@@ -51,6 +52,7 @@ pub struct Updates {
     too_long: usize,
     sizes: Sizes,
     takes: Takes,
+    own: Own,
     spellings: Spellings,
 }
 
@@ -128,14 +130,16 @@ impl Updates {
         match table.updates.get(update) {
             None => self.above += 1,
             Some(None) => self.not_started += 1,
-            Some(Some(ring)) => self.count_started(ring, update, request, answer == 0),
+            Some(Some(ring)) => self.count_started(ring, update, request, answer),
         }
     }
 
-    fn count_started(&mut self, ring: &Ring, update: usize, request: Request, accepted: bool) {
+    fn count_started(&mut self, ring: &Ring, update: usize, request: Request, answer: usize) {
+        let accepted = answer == 0;
         self.sizes.count(ring.n, accepted);
         if !ring.closed {
             self.takes.count(ring, request, accepted);
+            self.own.count_ring(ring, request, answer);
         }
         let announced = accepted && request.kind == ANNOUNCE;
         self.accepted[update].steps += usize::from(accepted);
@@ -168,6 +172,7 @@ impl Updates {
         self.report_refusals(report);
         self.sizes.report("updates", &[ON_LARGE], SIZES, report);
         self.takes.report("updates", &TAKES, report);
+        self.own.report("updates", &OWN, report);
         self.spellings.report("updates", SPELLINGS, report);
     }
 

@@ -3,8 +3,8 @@
 
 use crate::repository::{in_thousands, joined, lost_phrases, places_of, read, section, tables};
 use second::bounds::{
-    answers, calls, logs, soundness, tables, texts, updates, Asked, TakesAsked, LARGE_RINGS,
-    LARGE_TREES,
+    answers, calls, logs, own_trees, soundness, tables, texts, updates, Asked, OwnAsked,
+    TakesAsked, LARGE_RINGS, LARGE_TREES,
 };
 use second::log::{LINE_BYTES, LINE_LIMIT};
 use second::refusal::Refusal;
@@ -118,8 +118,7 @@ fn of_large_sizes() -> Vec<String> {
 
 fn of_calls() -> Vec<String> {
     let starts = "{} starts into noise and {} steps each";
-    let refusals = [&[3], &answers::OF_SOUND[..]].concat();
-    let (first, last) = (refusals[0], refusals[refusals.len() - 1]);
+    let refusals = enumerated(&[&[3], &answers::OF_SOUND[..]].concat(), "and");
     let on_large = format!("on {} each answer but a start's {{}} times", large());
     vec![
         filled(starts, &[calls::STARTS, calls::STEPS]),
@@ -128,8 +127,8 @@ fn of_calls() -> Vec<String> {
             share(calls::ACCEPTED_PART)
         ),
         filled(
-            "{} to {} at least {} times each",
-            &[first, last, calls::ANSWER],
+            &format!("{refusals} at least {{}} times each"),
+            &[calls::ANSWER],
         ),
         filled("{} runs announced on each", &[calls::ANNOUNCED]),
         filled("drives and of soundness {} times", &[calls::ANSWER]),
@@ -140,6 +139,19 @@ fn of_calls() -> Vec<String> {
             &[calls::NO_TRUTH],
         ),
         filled("0 and 1 there told as sound {} times", &[calls::TRUTH]),
+    ]
+}
+
+fn of_own_trees() -> Vec<String> {
+    let made = "sound ones of each sort and near misses of each kind {} times";
+    let on_large = format!("on {} {{}} times", range_name("trees", &LARGE_TREES));
+    let refused = "a take of such a message accepted, of near misses refused with {}";
+    let unsound = Refusal::Unsound.number() as usize;
+    vec![
+        filled(made, &[own_trees::OF_EACH]),
+        filled("on one node {} times", &[own_trees::ON_ONE]),
+        filled(&on_large, &[own_trees::ON_LARGE]),
+        filled(refused, &[unsound]),
     ]
 }
 
@@ -275,6 +287,7 @@ fn phrases() -> Vec<String> {
         of_updates(),
         of_refused_updates(),
         of_calls(),
+        of_own_trees(),
         of_soundness(),
         of_tables(),
         of_texts(),
@@ -336,7 +349,38 @@ fn takes() -> Vec<Vec<String>> {
     ]
 }
 
-/// The section without the table of sizes.
+/// A row of the table of messages to oneself.
+fn own_row(name: &str, asked: &OwnAsked) -> Vec<String> {
+    let told = |asked: Option<usize>| asked.map_or("-".to_owned(), in_thousands);
+    let figures = [
+        Some(asked.sent),
+        Some(asked.passive),
+        asked.limit,
+        asked.taken,
+        asked.alone,
+        asked.announced,
+    ];
+    let figures = figures.into_iter().map(told);
+    [name.to_owned()].into_iter().chain(figures).collect()
+}
+
+/// The rows of the table of messages to oneself, which is the section's fourth.
+fn own() -> Vec<Vec<String>> {
+    let large = [("rings", &LARGE_RINGS), ("trees", &LARGE_TREES)];
+    let [rings, trees] = large.map(|(of, nodes)| range_name(&format!("logs, {of}"), nodes));
+    vec![
+        own_row("logs, rings", &logs::OWN_ON_RINGS),
+        own_row(&rings, &logs::OWN_ON_LARGE_RINGS),
+        own_row("logs, trees", &logs::OWN_ON_TREES),
+        own_row(&trees, &logs::OWN_ON_LARGE_TREES),
+        own_row("logs, updates", &updates::OWN),
+        own_row("calls, rings", &calls::OWN_ON_RINGS),
+        own_row("calls, trees", &calls::OWN_ON_TREES),
+        own_row("calls, tables", &tables::OWN),
+    ]
+}
+
+/// The section without the table of sizes and those after it.
 fn text(page: &str) -> String {
     let text = section(page, HEADING);
     let end = text.find("\n| Steps |").unwrap_or(text.len());
@@ -396,6 +440,13 @@ fn the_table_of_takes_is_what_is_asked() {
     assert!(found[0][3].starts_with(&limit), "{}", found[0][3]);
     assert_eq!(logs::SPELLINGS, updates::SPELLINGS);
     assert!(text.contains(&filled("that is no form, {} times:", &[logs::SPELLINGS])));
+}
+
+#[test]
+fn the_table_of_messages_to_oneself_is_what_is_asked() {
+    let page = page();
+    let found = tables(section(&page, HEADING));
+    assert_eq!(found.get(3).map(|table| &table[1..]), Some(&own()[..]));
 }
 
 fn logs_ranges() -> Vec<String> {

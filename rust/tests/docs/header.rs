@@ -119,7 +119,7 @@ fn proved() -> BTreeMap<String, u64> {
 #[test]
 fn the_constants_are_the_proved_ones() {
     let proved = proved();
-    assert_eq!(proved.len(), 34, "constants");
+    assert_eq!(proved.len(), 33, "constants");
     assert_eq!(told(&read("c/muzserlik.h")), proved);
 }
 

@@ -31,7 +31,7 @@ returns-2 c =
     let at-if1 = c .before .before .before in
     let start = at-if1 .before .before in
     rw (c .refused2 .ensures .0, c .refused2 .ensures .1)
-    (rule-answer _ Ack _ _ (start .pre) refl (lt-leb _ _ (at-if1 .if1 .left)) refl
+    (rule-answer _ Ack _ _ (start .pre) refl (lt-leb _ _ (at-if1 .if1 .left))
     (le-ltb 0 (getD (start .args .acks .now) (start .args .i) 0) (omega arith)))
 
 mul-acks : tie.Need-mul-acks
@@ -64,7 +64,7 @@ returns-3 : tie.Need-returns-3
 returns-3 c =
     let at-if1 = c .before .before .before .before in
     let start = at-if1 .before .before in
-    accepted-answer _ Ack _ _ (start .pre) refl (lt-leb _ _ (at-if1 .if1 .left)) refl
+    accepted-answer _ Ack _ _ (start .pre) refl (lt-leb _ _ (at-if1 .if1 .left))
     (lt-ltb 0 (getD (start .args .acks .now) (start .args .i) 0) (omega arith)) refl
 
 pub ack-spec : {M : Type 1} → statement M

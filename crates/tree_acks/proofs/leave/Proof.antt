@@ -38,7 +38,7 @@ returns-2 c =
     let at-if1 = at-engager-of .before .before in
     let start = at-if1 .before .before in
     rw (c .refused2 .ensures .0, c .refused2 .ensures .1)
-    (rule-answer _ Leave _ _ (start .pre) refl (lt-leb _ _ (at-if1 .if1 .left)) refl
+    (rule-answer _ Leave _ _ (start .pre) refl (lt-leb _ _ (at-if1 .if1 .left))
     (rw (← at-engager-of .engager-of .ensures .0) (not-true _ (c .before .if2 .taken))))
 
 element-write-engager : tie.Need-element-write-engager
@@ -96,7 +96,7 @@ returns-3 c =
     let at-if1 = at-engager-of .before .before in
     let start = at-if1 .before .before in
     rw (at-engager-of .engager-of .ensures .0)
-    (accepted-answer _ Leave _ _ (start .pre) refl (lt-leb _ _ (at-if1 .if1 .left)) refl
+    (accepted-answer _ Leave _ _ (start .pre) refl (lt-leb _ _ (at-if1 .if1 .left))
     (rw (← at-engager-of .engager-of .ensures .0) (not-false _ (c .before .if2 .left))) refl)
 
 pub leave-spec : {M : Type 1} → statement M

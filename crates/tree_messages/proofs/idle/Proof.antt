@@ -25,7 +25,7 @@ returns-2 c =
     let at-if1 = c .before .before .before in
     let start = at-if1 .before .before in
     rw (c .refused2 .ensures .0, c .refused2 .ensures .1)
-    (rule-answer _ Idle _ _ (start .pre) refl (lt-leb _ _ (at-if1 .if1 .left)) refl (not-true _ (c .before .if2 .taken)))
+    (rule-answer _ Idle _ _ (start .pre) refl (lt-leb _ _ (at-if1 .if1 .left)) (not-true _ (c .before .if2 .taken)))
 
 element-write-active : tie.Need-element-write-active
 element-write-active c = search needs
@@ -33,7 +33,7 @@ element-write-active c = search needs
 returns-3 : tie.Need-returns-3
 returns-3 c =
     let start = c .before .before .before .before in
-    accepted-answer _ Idle _ _ (start .pre) refl (lt-leb _ _ (c .before .before .if1 .left)) refl (not-false _ (c .if2 .left)) refl
+    accepted-answer _ Idle _ _ (start .pre) refl (lt-leb _ _ (c .before .before .if1 .left)) (not-false _ (c .if2 .left)) refl
 
 pub idle-spec : {M : Type 1} → statement M
 idle-spec =

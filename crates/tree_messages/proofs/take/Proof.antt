@@ -52,7 +52,7 @@ returns-3 c =
     let at-if1 = at-if2 .before .before in
     let start = at-if1 .before .before in
     rw (c .refused3 .ensures .0, c .refused3 .ensures .1)
-    (rule-answer _ Take _ _ (start .pre) refl (rw (lt-leb _ _ (at-if1 .if1 .left), lt-leb _ _ (at-if2 .if2 .left))) refl
+    (rule-answer _ Take _ _ (start .pre) refl (rw (lt-leb _ _ (at-if1 .if1 .left), lt-leb _ _ (at-if2 .if2 .left)))
     (le-ltb 0 (getD (start .args .transit .now) (start .args .k * 16 + start .args .i) 0) (omega arith)))
 
 mul-transit : tie.Need-mul-transit
@@ -95,7 +95,7 @@ returns-4 c =
     (whole (start .args .r) (start .args .active .now) (start .args .engager .now) (start .args .unacked .now) (start .args .transit .now)
     (start .args .acks .now))
     (start .args .i) (start .args .k) (sym (c .before .engager-of .ensures .0) ∙ c .if4 .taken))
-    ∙ accepted-answer _ Take _ _ (start .pre) refl (rw (lt-leb _ _ (at-if1 .if1 .left), lt-leb _ _ (at-if2 .if2 .left))) refl
+    ∙ accepted-answer _ Take _ _ (start .pre) refl (rw (lt-leb _ _ (at-if1 .if1 .left), lt-leb _ _ (at-if2 .if2 .left)))
     (lt-ltb 0 (getD (start .args .transit .now) (start .args .k * 16 + start .args .i) 0) (omega arith)) refl
 
 mul-acks : tie.Need-mul-acks
@@ -124,7 +124,7 @@ returns-5 c =
     (whole (start .args .r) (start .args .active .now) (start .args .engager .now) (start .args .unacked .now) (start .args .transit .now)
     (start .args .acks .now))
     (start .args .i) (start .args .k) (λ e. c .before .if4 .left (c .before .before .engager-of .ensures .0 ∙ e)))
-    ∙ accepted-answer _ Take _ _ (start .pre) refl (rw (lt-leb _ _ (at-if1 .if1 .left), lt-leb _ _ (at-if2 .if2 .left))) refl
+    ∙ accepted-answer _ Take _ _ (start .pre) refl (rw (lt-leb _ _ (at-if1 .if1 .left), lt-leb _ _ (at-if2 .if2 .left)))
     (lt-ltb 0 (getD (start .args .transit .now) (start .args .k * 16 + start .args .i) 0) (omega (arith, at-if3 .if3 .left))) refl
 
 pub take-spec : {M : Type 1} → statement M
