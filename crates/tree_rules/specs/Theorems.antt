@@ -1,7 +1,7 @@
 -- What is proved of the definitions; the proofs are in proofs/, put together in proofs/Theorems.antt.
 use Prim.Native.Nat.{_<_, ℕ}
 use mathlib.Core.Bool.{false, true}
-use mathlib.Core.Logic.{_↔_, _≢_, _⊎_}
+use mathlib.Core.Logic.{_↔_, _⊎_}
 use mathlib.Core.Path.{_≡_}
 use Rattle.refusal.specs.Table.{FirstIs, NoneHolds, Numbered, Row, codeOf, sendLimit}
 use Rattle.refusal.specs.declared.Count.{Count}
