@@ -1,4 +1,4 @@
-//! The proved functions of crates/ring_exports and crates/tree_exports, each behind a safe one. What is lent to be read only is lent by
+//! The proved functions that other languages call, each behind a safe one. What is lent to be read only is lent by
 //! pointers that may be written through, so that a write would be seen.
 
 use crate::lent::{LentRing, LentTree};

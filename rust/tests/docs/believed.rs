@@ -26,7 +26,7 @@ const INNER: [(&str, &str); 13] = [
 ];
 
 /// Crates whose code need not be believed: it is called by the public operations, and proved; three are test programs.
-const INNER_CODE: [&str; 24] = [
+const INNER_CODE: [&str; 27] = [
     "log_end",
     "log_lines",
     "log_ring",
@@ -36,6 +36,7 @@ const INNER_CODE: [&str; 24] = [
     "log_tree",
     "ring_calls",
     "ring_driver",
+    "ring_fields",
     "ring_forms",
     "ring_messages",
     "ring_start",
@@ -44,10 +45,12 @@ const INNER_CODE: [&str; 24] = [
     "ring_walk",
     "table_calls",
     "table_columns",
+    "table_fields",
     "table_start",
     "table_steps",
     "tree_acks",
     "tree_calls",
+    "tree_fields",
     "tree_forms",
     "tree_messages",
     "tree_steps",
