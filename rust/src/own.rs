@@ -43,7 +43,10 @@ impl Own {
     pub fn count_tree(&mut self, tree: &Tree, request: Request, answer: usize) {
         self.count_send(request, answer);
         if (request.kind, request.i, answer) == (TAKE, request.j, 0) {
-            assert!(tree.is_engaged(request.i), "it has sent");
+            let mut next = tree.clone();
+            assert_eq!(next.step(request), Ok(()));
+            assert_eq!(next.acks[request.i], tree.acks[request.i] + 1);
+            assert_eq!(next.engager, tree.engager);
             self.taken += 1;
         }
         if tree.n == 1 && answer == 0 {
@@ -107,6 +110,7 @@ impl Own {
 #[cfg(test)]
 mod tests {
     use super::*;
+    use crate::request::IDLE;
 
     const SEND_TO_ONESELF: Request = Request {
         kind: SEND,
@@ -134,11 +138,15 @@ mod tests {
     fn a_lone_node_of_a_ring() {
         let mut ring = Ring::start(1, &[1]).expect("a start in range");
         let mut own = Own::default();
-        let steps = [(PROBE, 0), (SEND, 0), (PROBE, 0), (TAKE, 1), (ANNOUNCE, 0)];
-        for (kind, j) in steps {
+        let taken = [(PROBE, 0), (SEND, 0), (PROBE, 0), (TAKE, 1)];
+        let quiet = [(IDLE, 0), (PROBE, 0), (ANNOUNCE, 0)];
+        for (kind, j) in taken.into_iter().chain(quiet) {
+            let before = ring.clone();
             let request = Request::new(kind, 0, j);
-            own.count_ring(&ring, request, 0);
-            let _ = ring.step(request);
+            let answer = ring
+                .step(request)
+                .map_or_else(|e| e.number() as usize, |()| 0);
+            own.count_ring(&before, request, answer);
         }
         let Alone {
             sends,

@@ -217,7 +217,7 @@ impl Ring {
         }
     }
 
-    /// One step on any state: checks 3 to 9 in the table's order, then the rule.
+    /// One step on any state: checks 3, 4, 5, 6, 8, 9 in the table's order, then the rule.
     /// A refused step leaves the state as it was.
     pub fn step(&mut self, request: Request) -> Result<(), Refusal> {
         if !self.is_sound() {

@@ -196,6 +196,7 @@ instances =
     let busy-quiet : QuietPoint busyRing busyRequests = quiet-point busyRing busyRequests refl refl in
     let alone-open : Open alone = sound-kept .start 1 (1 ∷ []) refl in
     let alone-quiet : QuietPoint alone (aloneSends ++ aloneTakes) = quiet-point alone (aloneSends ++ aloneTakes) refl refl in
+    let one : 0 < 1 = omega arith in
     let b = starts-agree 3 .start-is-init startFlags refl in
     record {
       start = (refl, first-open);
@@ -222,7 +223,8 @@ instances =
             some-node = b .some-node;
             init = b .init;
             reachable = runs-agree (b .some-node) .run-is-reachable startFlags refl requests;
-            reachable-alone = λ h. runs-agree h .run-is-reachable (1 ∷ []) refl aloneSends;
+            one-node = one;
+            reachable-alone = runs-agree one .run-is-reachable (1 ∷ []) refl aloneSends;
             detected =
                 record { token-pos = refl; token-color = refl; zero-sum = refl; color = refl; passive = refl; pending = refl };
           };

@@ -24,7 +24,7 @@ use Rattle.tree_runs.proofs.Change.{engaged-null}
 use Rattle.tree_runs.proofs.WholeRun.{whole-runs}
 use Rattle.tree_runs.specs.Counts.{Announced, Unannounced, activeBy, transitBy, tree}
 use Rattle.tree_runs.specs.DijkstraScholten.{Addr}
-use Rattle.instances.specs.Tree.{Instances, QuietPoint, Worked, alone, aloneRequests, aloneSends, aloneTakes, first, handed, handedRequests, handedSteps, handedTree, requests, steps}
+use Rattle.instances.specs.Tree.{Instances, QuietPoint, Worked, alone, aloneRequests, aloneSends, aloneTakes, belowRequests, belowSteps, first, handed, handedRequests, handedSteps, handedTree, requests, steps}
 use Rattle.tree_runs.specs.Requests.{ack, announce, numbers}
 use Rattle.tree_runs.specs.WholeRun.{stepsBy}
 
@@ -81,6 +81,7 @@ instances =
     let alone-open : Open alone = sound-kept .start 1 0 refl in
     let alone-quiet : QuietPoint alone (aloneSends ++ aloneTakes) = quiet-point alone (aloneSends ++ aloneTakes) refl refl refl in
     let alone-still : QuietPoint alone aloneRequests = quiet-point alone aloneRequests refl refl refl in
+    let below-quiet : QuietPoint first belowRequests = quiet-point first belowRequests refl refl refl in
     let lone : Addr 1 = record { nr = 0; below = omega arith } in
     let root : Addr 3 = record { nr = 0; below = omega arith } in
     record {
@@ -97,6 +98,10 @@ instances =
       alone-worked = worked alone (aloneSends ++ aloneTakes) (ack 0 ∷ []) _ alone-open alone-quiet refl refl refl refl refl refl;
       alone-last = alone-still;
       alone-done = worked alone aloneRequests [] _ alone-open alone-still refl refl refl refl refl refl;
+      below-answers = refl;
+      below-point = below-quiet;
+      below-counts = (refl, refl);
+      below-worked = worked first belowRequests belowSteps _ first-open below-quiet refl refl refl refl refl refl;
       three-in = three-open;
       three-point = (refl, three-quiet);
       three-counts = (refl, refl);

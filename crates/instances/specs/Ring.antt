@@ -166,7 +166,8 @@ pub record Agreed : Type 0 where
   pub some-node : 0 < 3
   pub init : Init some-node (varsOf 3 first)
   pub reachable : Reachable some-node (varsOf 3 (runOf ring first requests)) 2
-  pub reachable-alone : (h : 0 < 1) → Reachable h (varsOf 1 (runOf ring alone aloneSends)) 1
+  pub one-node : 0 < 1
+  pub reachable-alone : Reachable one-node (varsOf 1 (runOf ring alone aloneSends)) 1
   pub detected : terminationDetected some-node (varsOf 3 (runOf ring first (requests ++ moves)))
 
 pub record Instances : Type 0 where

@@ -51,6 +51,17 @@ aloneSends = send 0 0 ∷ idle 0 ∷ []
 abbrev pub aloneTakes : List Request
 aloneTakes = take 0 0 ∷ idle 0 ∷ []
 
+-- ---- node 1, which the root engaged, sends to itself; it may not leave before its own acknowledgement
+
+abbrev pub belowRequests : List Request
+belowRequests = send 0 1 ∷ take 1 0 ∷ send 1 1 ∷ idle 1 ∷ leave 1 ∷ take 1 1 ∷ idle 1 ∷ leave 1 ∷ idle 0 ∷ []
+
+abbrev pub belowAnswers : List ℕ
+belowAnswers = 0 ∷ 0 ∷ 0 ∷ 0 ∷ 8 ∷ 0 ∷ 0 ∷ 8 ∷ 0 ∷ []
+
+abbrev pub belowSteps : List Request
+belowSteps = ack 1 ∷ leave 1 ∷ ack 0 ∷ []
+
 -- ---- a state handed in: one passive node, with one message sent and acknowledged. A run gives it: the one above.
 
 abbrev pub handed : State
@@ -139,8 +150,8 @@ pub record Instances : Type 0 where
   -- it is quiet; no step is left there
   pub handed-point : QuietPoint handed []
   pub handed-worked : Worked handed [] [] 0
-  -- one node by itself: with its own message in transit it is not quiet, and has an engager; once it has taken it, K is 1 for the acknowledgement;
-  -- once that is taken too, 0
+  -- one node by itself: with its own message in transit it is not quiet; once it has taken it, K is 1 for the acknowledgement; once that is taken
+  -- too, 0
   pub alone-start : (startVerdict 1 0 ≡ Accepted) × Open alone
   pub alone-answers : numbers alone aloneRequests ≡ aloneAnswers
   pub alone-busy : QuietBy alone aloneSends → ⊥
@@ -148,6 +159,11 @@ pub record Instances : Type 0 where
   pub alone-worked : Worked alone (aloneSends ++ aloneTakes) (ack 0 ∷ []) 1
   pub alone-last : QuietPoint alone aloneRequests
   pub alone-done : Worked alone aloneRequests [] 0
+  -- a node that the root engaged, and its own message: A is 1, its own acknowledgement, and E is 1
+  pub below-answers : numbers first belowRequests ≡ belowAnswers
+  pub below-point : QuietPoint first belowRequests
+  pub below-counts : (acksBy first belowRequests ≡ 1) × (othersBy first belowRequests ≡ 1)
+  pub below-worked : Worked first belowRequests belowSteps 3
   -- the tree of three handed in is sound, not yet announced and quiet; A + 2E = 7 steps are left there
   pub three-in : Open handedTree
   pub three-point : (numbers handedTree handedRequests ≡ handedAnswers) × QuietPoint handedTree handedRequests

@@ -130,7 +130,7 @@ pub record UpdateLog (s : List ℕ) (lines : List (List ℕ)) (n : ℕ) (first :
   pub not-started :
       (u i : ℕ) → startedOf u emptyTable (made first asks i) ≡ false
       → slotAt (tableAt first asks i) u ≡ NotStarted
-  -- EWD998 reaches the state of each started update before each line, and all have n nodes
+  -- EWD998, its SendMsg widened to any receiver, reaches the state of each started update before each line, and all have n nodes
   pub reachable :
       (u i : ℕ) (r : State) → slotAt (tableAt first asks i) u ≡ Started r → (h : 0 < r .n) → Reachable h (shown r) (sendsMade r)
   pub nodes : (u i : ℕ) (r : State) → slotAt (tableAt first asks i) u ≡ Started r → r .n ≡ n

@@ -88,7 +88,7 @@ pub record RingLog (s : List ℕ) (lines : List (List ℕ)) (n : ℕ) (r : ringS
       (i b : ℕ)
       → ringState.pendingAt (runOf ring r (said asks i)) b + ringState.receivedAt (runOf ring r (said asks i)) b
       ≡ ringCounts.sendsTo (acceptedOf ring r (said asks i)) b
-  -- EWD998 reaches the state before each line
+  -- EWD998, its SendMsg widened to any receiver, reaches the state before each line
   pub reachable :
       (h : 0 < n) (i : ℕ)
       → ringAgreement.Reachable h (ringView.varsOf n (runOf ring r (said asks i)))

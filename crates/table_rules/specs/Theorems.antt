@@ -69,7 +69,7 @@ pub record TableNumbers : Type 0 where
   pub fixed-by-start : (t : Table) (u n : ℕ) (flags : List ℕ) → verdictOn t (Start u n flags) ≡ Accepted → fixed (answerOn t (Start u n flags) .table) ≡ n
   pub none-fixed : (t : Table) → SoundTable t → fixed t ≡ 0 → (u : ℕ) → slotAt t u ≡ NotStarted
 
--- In a sound table a step of a started update meets the ring's own rows 4 to 8, and then 9 judged on the sends of the present eight.
+-- In a sound table a step of a started update meets the ring's own rows 4, 5, 6 and 8, and then 9 judged on the sends of the present eight.
 pub record LimitTogether : Type 0 where
   pub rows :
       (t : Table) → SoundTable t → (u : ℕ) (r : State) → slotAt t u ≡ Started r → (k : Kind) (i j : ℕ)

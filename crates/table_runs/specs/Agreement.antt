@@ -1,5 +1,5 @@
--- THE AGREEMENT of each update of a table with EWD998, in both directions, and that the other seven are left alone. Only statements are here;
--- proofs/Agreement.antt proves them. `shown` and `varsOf` (ring_runs) are a ring as EWD998 sees it, and `Action` is which request stands for
+-- THE AGREEMENT of each update of a table with EWD998, its SendMsg widened to any receiver (document 02, Q-4), in both directions, and that the other
+-- seven are left alone. Only statements are here; proofs/Agreement.antt proves them. `shown` and `varsOf` (ring_runs) are a ring as EWD998 sees it, and `Action` is which request stands for
 -- which action.
 use Prim.Native.Nat.{_+_, _<_, _≤_, ℕ}
 use mathlib.Core.Bool.{false, true}

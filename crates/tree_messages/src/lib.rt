@@ -36,7 +36,7 @@ pub fn send<'a>(
     if r.n <= j {
         return refused(r, Refusal::UnknownNode);
     }
-    if !active[i] {
+    if !active[i] { // whoever j is
         return refused(r, Refusal::RuleFails);
     }
     if SEND_LIMIT <= r.sends {
@@ -78,7 +78,8 @@ pub fn take<'a>(
     }
     transit[k * TREE_NODES + i] -= 1;
     active[i] = true;
-    if tree_check::engager_of(engager, i) == NO_NODE {
+    let free = tree_check::engager_of(engager, i) == NO_NODE;
+    if free {
         engager[i] = k as u8;
         return Told {
             verdict: Verdict::Accepted,

@@ -7,14 +7,14 @@ use mathlib.Core.Logic.{_≢_}
 use mathlib.Core.Path.{_∙_, _≡_, ap, sym}
 use native.Mathlib.Decide.{ℕ-discrete}
 use native.Mathlib.Omega.{arith}
-use Rattle.laws.proofs.Indicators.{ind-ne, lowered-at, raised-at, set-here}
+use Rattle.laws.proofs.Indicators.{ind-eq, ind-ne, lowered-at, raised-at, set-here}
 use Rattle.tree_rules.proofs.Accepted.{Leaver}
 use Rattle.tree_rules.proofs.Chains.{childless, climb-any, climb-engage, climb-leave}
 use Rattle.tree_rules.proofs.Facts.{Balanced, Facts, in-acks, in-engager, in-range, in-transit, root-16, sender-engaged, still-open, take-cases}
 use Rattle.tree_rules.proofs.Sums.{children-set, from-lowered}
 use Rattle.tree_rules.specs.Rules.{engageOf, leaveOf, replyOf, takeOf}
 use Rattle.tree_rules.specs.Soundness.{Resting}
-use Rattle.tree_rules.specs.State.{State, activeAt, climb, engagerAt, transitAt, unackedAt}
+use Rattle.tree_rules.specs.State.{State, acksAt, activeAt, climb, engagerAt, transitAt, unackedAt}
 
 module _ (t : State) (f : Facts t) (running : t .closed ≡ false) where
   -- ---- rule 2
@@ -115,9 +115,17 @@ module _ (t : State) (f : Facts t) (running : t .closed ≡ false) where
 
     -- i has an engager
 
+    -- the acknowledgements on their way to k then
+    abbrev replied : ℕ
+    replied = acksAt t k + 1
+
     reply-balance : (m : ℕ) → m < 16 → Balanced (replyOf t i k) m
     reply-balance m hm =
-        omega (arith, f .balance m hm, from-lowered (t .transit) k i m pair i16 has, raised-at (t .acks) k m (in-acks t f k k16))
+        let less = from-lowered (t .transit) k i m pair i16 has in
+        elim (ℕ-discrete m k) [
+          | yes e ↦ omega (arith, f .balance m hm, less, set-here (t .acks) k m replied 0 (in-acks t f k k16) e, ap (acksAt t) e, ind-eq m k e)
+          | no e ↦ omega (arith, f .balance m hm, less, getD-set-other (t .acks) k m replied 0 e, ind-ne m k e)
+        ]
 
     reply-keeps : engagerAt t i ≢ 16 → Facts (replyOf t i k)
     reply-keeps busy =

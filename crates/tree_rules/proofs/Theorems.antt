@@ -1,8 +1,10 @@
 -- The statements of specs/Theorems.antt, proved. Assumes nothing.
-use Prim.Native.Nat.{_<_, ℕ}
-use borrow.Author.Tests.{lt-leb, lt-ltb}
+use Prim.Native.Nat.{_*_, _+_, _-_, _<_, ℕ}
+use lib.Seq.{getD-set-other, getD-set-same}
+use mathlib.Core.Bool.{false, true}
 use mathlib.Core.Logic.{_≢_, _⊎_}
 use mathlib.Core.Path.{_∙_, _≡_, ap, refl, subst, sym}
+use native.Mathlib.Omega.{arith}
 use Rattle.laws.proofs.Tests.{false-true}
 use Rattle.refusal.proofs.Table.{accepts, first-row, none-holds, numbered, other-kind}
 use Rattle.refusal.proofs.Theorems.{count-refused, count-told}
@@ -10,21 +12,20 @@ use Rattle.refusal.specs.Counts.{countOf}
 use Rattle.refusal.specs.Table.{settle}
 use Rattle.refusal.specs.declared.Verdict.{Verdict}
 use Rattle.refusal.specs.declared.Verdict.the-variants.{Accepted, Refused}
-use Rattle.tree_rules.proofs.Accepted.{Allowed, Rule, allowed, announces}
-use Rattle.tree_rules.proofs.Answers.{accepted-answer, acceptedAs}
-use Rattle.tree_rules.proofs.Facts.{facts, in-range, sender-engaged, take-replies, true-engaged}
+use Rattle.tree_rules.proofs.Accepted.{Allowed, Rule, accepted, allowed, announces, sends, takes}
+use Rattle.tree_rules.proofs.Facts.{facts, in-acks, in-range, in-transit, sender-engaged, take-replies, true-engaged}
 use Rattle.tree_rules.proofs.Keeps.{keeps}
 use Rattle.tree_rules.proofs.Limit.{limit-decides, limit-only}
 use Rattle.tree_rules.proofs.Quiet.{conclusive-quiet}
 use Rattle.tree_rules.proofs.Soundness.{sound-true, true-sound}
 use Rattle.tree_rules.proofs.Start.{blank-unsound, first-open, fits}
 use Rattle.tree_rules.specs.Answers.{answerOf, stepTable, verdictOf}
-use Rattle.tree_rules.specs.Rules.{Ack, Announce, Idle, Kind, Leave, Send, Take, Unknown, effect, kindOf}
+use Rattle.tree_rules.specs.Rules.{Ack, Announce, Idle, Kind, Leave, Send, Take, Unknown, effect, kindOf, replyOf}
 use Rattle.tree_rules.specs.Soundness.{Open, Sound, soundTest}
 use Rattle.tree_rules.specs.Start.{blank, firstState, startOf, startTable, startVerdict}
-use Rattle.tree_rules.specs.State.{State, engagerAt, transitAt}
+use Rattle.tree_rules.specs.State.{State, acksAt, engagerAt, transitAt}
 use Rattle.tree_rules.specs.Termination.{Quiet, acksTotal}
-use Rattle.tree_rules.specs.Theorems.{AnnouncedQuiet, CountsTold, FieldsUnread, LimitMet, OwnMessages, SoundKept, SoundTested, StartAnswered, StepAnswered, Tells}
+use Rattle.tree_rules.specs.Theorems.{AnnouncedQuiet, CountsTold, FieldsUnread, LimitMet, OwnMessages, OwnTaken, SoundKept, SoundTested, StartAnswered, StepAnswered, Tells}
 
 pub sound-tested : SoundTested
 sound-tested = record { holds = sound-true; tested = true-sound }
@@ -96,20 +97,43 @@ pub limit-met : LimitMet
 limit-met =
     record { only = limit-only; below = λ t i j o s. limit-decides t i j o s .0; spent = λ t i j o s. limit-decides t i j o s .1 }
 
+own-sender : (t : State) → Sound t → (i k : ℕ) → i < t .n → k < t .n → 0 < transitAt t i k → engagerAt t i ≢ 16
+own-sender t s i k hi hk has =
+    let f = facts t s in
+    sender-engaged t f i k (in-range t f i hi) (in-range t f k hk) has
+
+own-taken : (t : State) → Sound t → (i : ℕ) → i < t .n → 0 < transitAt t i i → OwnTaken t i (replyOf t i i)
+own-taken t s i hi has =
+    let f = facts t s in
+    let i16 = in-range t f i hi in
+    record {
+      active = getD-set-same (t .active) i true false (omega (arith, s .shape .active-places));
+      message = omega (arith, getD-set-same (t .transit) (i * 16 + i) (transitAt t i i - 1) 0 (in-transit t f i i i16 i16));
+      acknowledgement = getD-set-same (t .acks) i (acksAt t i + 1) 0 (in-acks t f i i16);
+      unacked = refl;
+      engagers = refl;
+      other-messages = λ j k hj hk ne. getD-set-other (t .transit) (i * 16 + i) (j * 16 + k) _ 0 (λ e. ne (omega arith) (omega arith));
+      other-acks = λ k ne. getD-set-other (t .acks) i k _ 0 ne;
+    }
+
 pub own-messages : OwnMessages
+unfolding answerOf
 own-messages =
     record {
-      engaged = λ t s i k hi hk has. true-engaged t i (sender t s i k hi hk has);
+      held =
+          λ t o i hi act room.
+          let e = accepted t Send i i o (sends hi hi act room) in
+          let f = facts t (o .sound) in
+          let i16 = in-range t f i hi in
+          let next = ap (λ (s : State). transitAt s i i) (step-answered .next t Send i i e) in
+          (e, step-sound t Send i i e, next ∙ getD-set-same (t .transit) (i * 16 + i) (transitAt t i i + 1) 0 (in-transit t f i i i16 i16));
+      engaged = λ t s i k hi hk has. true-engaged t i (own-sender t s i k hi hk has);
       taken =
           λ t o i hi has.
-          sym (accepted-answer t Take i i o refl (rw (lt-leb (t .n) i hi)) (lt-ltb 0 (transitAt t i i) has) refl)
-          ∙ ap acceptedAs (sym (take-replies t i i (sender t (o .sound) i i hi hi has)));
+          let e = accepted t Take i i o (takes hi hi has) in
+          let replies = take-replies t i i (own-sender t (o .sound) i i hi hi has) in
+          (e, subst (OwnTaken t i) (replies ∙ sym (step-answered .next t Take i i e)) (own-taken t (o .sound) i hi has));
     }
-  where
-    sender : (t : State) → Sound t → (i k : ℕ) → i < t .n → k < t .n → 0 < transitAt t i k → engagerAt t i ≢ 16
-    sender t s i k hi hk has =
-        let f = facts t s in
-        sender-engaged t f i k (in-range t f i hi) (in-range t f k hk) has
 
 pub fields-unread : FieldsUnread
 unfolding answerOf verdictOf

@@ -1,17 +1,17 @@
 -- What is proved of the definitions; the proofs are in proofs/, put together in proofs/Theorems.antt.
-use Prim.Native.Nat.{_<_, ℕ}
+use Prim.Native.Nat.{_+_, _<_, ℕ}
 use mathlib.Core.Bool.{false, true}
-use mathlib.Core.Logic.{_↔_, _⊎_}
+use mathlib.Core.Logic.{_↔_, _≢_, _⊎_}
 use mathlib.Core.Path.{_≡_}
 use Rattle.refusal.specs.Table.{FirstIs, NoneHolds, Numbered, Row, codeOf, sendLimit}
 use Rattle.refusal.specs.declared.Count.{Count}
 use Rattle.refusal.specs.declared.Refusal.{Refusal}
 use Rattle.refusal.specs.declared.Verdict.the-variants.{Accepted, Refused}
 use Rattle.tree_rules.specs.Answers.{acksAnswer, answerOf, stepOf, stepTable, verdictOf}
-use Rattle.tree_rules.specs.Rules.{Ack, Announce, Idle, Kind, Leave, Send, Take, Unknown, effect, replyOf}
+use Rattle.tree_rules.specs.Rules.{Ack, Announce, Idle, Kind, Leave, Send, Take, Unknown, effect}
 use Rattle.tree_rules.specs.Soundness.{Open, Sound, soundTest}
 use Rattle.tree_rules.specs.Start.{firstState, startOf, startTable, startVerdict}
-use Rattle.tree_rules.specs.State.{State, activeAt, engaged, transitAt}
+use Rattle.tree_rules.specs.State.{State, acksAt, activeAt, engaged, transitAt}
 use Rattle.tree_rules.specs.Termination.{Quiet, acksTotal}
 
 -- The facts of soundness and the test that code computes agree.
@@ -75,12 +75,27 @@ pub record LimitMet : Type 0 where
   pub below : (t : State) (i j : ℕ) → Open t → Sending t i j → (codeOf (answerOf t Send i j .verdict) ≡ 0) ↔ (t .sends < sendLimit)
   pub spent : (t : State) (i j : ℕ) → Open t → Sending t i j → (codeOf (answerOf t Send i j .verdict) ≡ 9) ↔ (t .sends ≡ sendLimit)
 
--- Document 02, Q-4: "On the tree a board taking its own job is already engaged and acknowledges itself." Whoever has a message in transit is engaged,
--- its receiver being any node, itself too; so a message to oneself can be taken, its taker keeps its engager, and the acknowledgement sets out to it.
+-- In t node i takes a message of its own, and s is the state then: i is active, one message to itself less is in transit, and one acknowledgement
+-- more is on its way to it; what is unacknowledged, the engagers, and all other messages and acknowledgements are as they were.
+pub record OwnTaken (t : State) (i : ℕ) (s : State) : Type 0 where
+  pub active : activeAt s i ≡ true
+  pub message : transitAt s i i + 1 ≡ transitAt t i i
+  pub acknowledgement : acksAt s i ≡ acksAt t i + 1
+  pub unacked : s .unacked ≡ t .unacked
+  pub engagers : s .engager ≡ t .engager
+  pub other-messages : (j k : ℕ) → j < 16 → k < 16 → (j ≡ i → k ≡ i → ⊥) → transitAt s j k ≡ transitAt t j k
+  pub other-acks : (k : ℕ) → k ≢ i → acksAt s k ≡ acksAt t k
+
+-- Document 02, Q-4: "Sending to oneself is allowed on ring and tree, and a sound tree may hold such jobs. On the tree a board taking its own job is
+-- already engaged and acknowledges itself." Whoever has a message in transit is engaged, its receiver being any node, itself too.
 pub record OwnMessages : Type 0 where
+  pub held :
+      (t : State) → Open t → (i : ℕ) → i < t .n → activeAt t i ≡ true → t .sends < sendLimit
+      → (verdictOf t Send i i ≡ Accepted) × Sound (answerOf t Send i i .state) × (transitAt (answerOf t Send i i .state) i i ≡ transitAt t i i + 1)
   pub engaged : (t : State) → Sound t → (i k : ℕ) → i < t .n → k < t .n → 0 < transitAt t i k → engaged t i ≡ true
   pub taken :
-      (t : State) → Open t → (i : ℕ) → i < t .n → 0 < transitAt t i i → answerOf t Take i i ≡ record { verdict = Accepted; state = replyOf t i i }
+      (t : State) → Open t → (i : ℕ) → i < t .n → 0 < transitAt t i i
+      → (verdictOf t Take i i ≡ Accepted) × OwnTaken t i (answerOf t Take i i .state)
 
 -- Fields that a kind does not use are not read: an unknown kind uses none, and all kind numbers outside 1 to 6 are answered alike.
 pub record FieldsUnread : Type 0 where

@@ -90,7 +90,7 @@ fn answers_told(page: &str) -> Numbers {
     numbered(section(page, "## Refusals"), ["Answer", "Number"], 2, 1)
 }
 
-/// `0, 3 to 9`, `1 or 0`, in the order of numbers.
+/// `0, 3 to 6, 8`, `1 or 0`, in the order of numbers.
 fn numbers(cell: &str) -> Option<Vec<usize>> {
     let mut found = Vec::new();
     for part in list(&cell.replace(" or ", ",")) {

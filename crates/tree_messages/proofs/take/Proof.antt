@@ -1,5 +1,5 @@
 use Prim.Native.Nat.{_*_, _+_}
-use borrow.Author.Tests.{le-leb, le-ltb, lt-leb, lt-ltb}
+use borrow.Author.Tests.{eqb-false, eqb-true, le-leb, le-ltb, lt-leb, lt-ltb}
 use lib.Dec.{leb}
 use lib.ListN.{getD}
 use mathlib.Core.Path.{_∙_, ap, refl, sym}
@@ -94,7 +94,7 @@ returns-4 c =
     (take-engages
     (whole (start .args .r) (start .args .active .now) (start .args .engager .now) (start .args .unacked .now) (start .args .transit .now)
     (start .args .acks .now))
-    (start .args .i) (start .args .k) (sym (c .before .engager-of .ensures .0) ∙ c .if4 .taken))
+    (start .args .i) (start .args .k) (sym (c .before .engager-of .ensures .0) ∙ eqb-true _ _ (c .if4 .taken)))
     ∙ accepted-answer _ Take _ _ (start .pre) refl (rw (lt-leb _ _ (at-if1 .if1 .left), lt-leb _ _ (at-if2 .if2 .left)))
     (lt-ltb 0 (getD (start .args .transit .now) (start .args .k * 16 + start .args .i) 0) (omega arith)) refl
 
@@ -123,7 +123,7 @@ returns-5 c =
     (take-replies
     (whole (start .args .r) (start .args .active .now) (start .args .engager .now) (start .args .unacked .now) (start .args .transit .now)
     (start .args .acks .now))
-    (start .args .i) (start .args .k) (λ e. c .before .if4 .left (c .before .before .engager-of .ensures .0 ∙ e)))
+    (start .args .i) (start .args .k) (λ e. eqb-false _ _ (c .before .if4 .left) (c .before .before .engager-of .ensures .0 ∙ e)))
     ∙ accepted-answer _ Take _ _ (start .pre) refl (rw (lt-leb _ _ (at-if1 .if1 .left), lt-leb _ _ (at-if2 .if2 .left)))
     (lt-ltb 0 (getD (start .args .transit .now) (start .args .k * 16 + start .args .i) 0) (omega (arith, at-if3 .if3 .left))) refl
 
