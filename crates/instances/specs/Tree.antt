@@ -62,7 +62,7 @@ belowAnswers = 0 ∷ 0 ∷ 0 ∷ 0 ∷ 8 ∷ 0 ∷ 0 ∷ 8 ∷ 0 ∷ []
 abbrev pub belowSteps : List Request
 belowSteps = ack 1 ∷ leave 1 ∷ ack 0 ∷ []
 
--- ---- a state handed in: one passive node, with one message sent and acknowledged. A run gives it: the one above.
+-- ---- a state handed in: one passive node, with one message sent and acknowledged. A run gives it: `aloneRequests`.
 
 abbrev pub handed : State
 handed =

@@ -36,7 +36,7 @@ pub fn send<'a>(
     if r.n <= j {
         return refused(r, Refusal::UnknownNode);
     }
-    if !active[i] { // whoever j is
+    if !active[i] { // j may be i
         return refused(r, Refusal::RuleFails);
     }
     if SEND_LIMIT <= r.sends {

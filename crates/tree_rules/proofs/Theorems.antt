@@ -112,8 +112,10 @@ own-taken t s i hi has =
       acknowledgement = getD-set-same (t .acks) i (acksAt t i + 1) 0 (in-acks t f i i16);
       unacked = refl;
       engagers = refl;
+      others-active = λ k ne. getD-set-other (t .active) i k true false ne;
       other-messages = λ j k hj hk ne. getD-set-other (t .transit) (i * 16 + i) (j * 16 + k) _ 0 (λ e. ne (omega arith) (omega arith));
       other-acks = λ k ne. getD-set-other (t .acks) i k _ 0 ne;
+      rest = (refl, refl, refl, refl);
     }
 
 pub own-messages : OwnMessages

@@ -76,23 +76,27 @@ pub record LimitMet : Type 0 where
   pub spent : (t : State) (i j : ℕ) → Open t → Sending t i j → (codeOf (answerOf t Send i j .verdict) ≡ 9) ↔ (t .sends ≡ sendLimit)
 
 -- In t node i takes a message of its own, and s is the state then: i is active, one message to itself less is in transit, and one acknowledgement
--- more is on its way to it; what is unacknowledged, the engagers, and all other messages and acknowledgements are as they were.
+-- more is on its way to it; all else is as it was.
 pub record OwnTaken (t : State) (i : ℕ) (s : State) : Type 0 where
   pub active : activeAt s i ≡ true
   pub message : transitAt s i i + 1 ≡ transitAt t i i
   pub acknowledgement : acksAt s i ≡ acksAt t i + 1
   pub unacked : s .unacked ≡ t .unacked
   pub engagers : s .engager ≡ t .engager
+  pub others-active : (k : ℕ) → k ≢ i → activeAt s k ≡ activeAt t k
   pub other-messages : (j k : ℕ) → j < 16 → k < 16 → (j ≡ i → k ≡ i → ⊥) → transitAt s j k ≡ transitAt t j k
   pub other-acks : (k : ℕ) → k ≢ i → acksAt s k ≡ acksAt t k
+  pub rest : (s .n ≡ t .n) × (s .root ≡ t .root) × (s .sends ≡ t .sends) × (s .closed ≡ t .closed)
 
--- Document 02, Q-4: "Sending to oneself is allowed on ring and tree, and a sound tree may hold such jobs. On the tree a board taking its own job is
--- already engaged and acknowledges itself." Whoever has a message in transit is engaged, its receiver being any node, itself too.
+-- Document 02, Q-4, of the tree. (Of the ring, where a message to oneself is a case of nothing, `LimitMet.below` says that it may be sent.)
 pub record OwnMessages : Type 0 where
+  -- "a sound tree may hold such jobs"
   pub held :
       (t : State) → Open t → (i : ℕ) → i < t .n → activeAt t i ≡ true → t .sends < sendLimit
       → (verdictOf t Send i i ≡ Accepted) × Sound (answerOf t Send i i .state) × (transitAt (answerOf t Send i i .state) i i ≡ transitAt t i i + 1)
+  -- "a board taking its own job is already engaged": whoever has a message in transit is, its receiver being any node, itself too
   pub engaged : (t : State) → Sound t → (i k : ℕ) → i < t .n → k < t .n → 0 < transitAt t i k → engaged t i ≡ true
+  -- "and acknowledges itself"
   pub taken :
       (t : State) → Open t → (i : ℕ) → i < t .n → 0 < transitAt t i i
       → (verdictOf t Take i i ≡ Accepted) × OwnTaken t i (answerOf t Take i i .state)
