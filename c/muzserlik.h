@@ -59,7 +59,7 @@ enum {
     MUZSERLIK_TREE_NONE = 16,
     /* a tree's text is never longer */
     MUZSERLIK_TREE_TEXT_BYTES = 69,
-    /* accepted sends of one run, at most; of a table, of its started updates together */
+    /* accepted sends of one run, at most; in a table each update has a run of its own */
     MUZSERLIK_SEND_LIMIT = 1000000,
     /* messages of one take on a ring, at most */
     MUZSERLIK_TAKE_LIMIT = 1000,
@@ -84,7 +84,7 @@ enum muzserlik_answer {
     /* 7 is retired: a send from a node to itself was refused with it before change request Q-4. The number is given to nothing else */
     /* the step's rule does not hold: the step is not possible now */
     MUZSERLIK_REFUSED_RULE_FAILS = 8,
-    /* a send after 1,000,000 accepted ones; in a table, of the started updates together, closed ones too, each since its latest start */
+    /* a send after 1,000,000 accepted ones; in a table, of the same update since its latest start, whatever the others sent */
     MUZSERLIK_REFUSED_SEND_LIMIT = 9,
     /* reading: the text is not a tree's, by another fault than a number of n or more */
     MUZSERLIK_REFUSED_NOT_A_FORM = 10,
@@ -270,9 +270,9 @@ static inline void muzserlik_table_clear(struct muzserlik_table *table)
 }
 
 /*
- * Starts an update of n nodes, or starts it afresh, open or closed, which gives its old sends back; `flags` and `count` as for a ring's start. The first
- * start that is accepted fixes n for the whole table. 0, and no other update's places are written to; 3, 13, 1 or 2, in this order, with the table as it
- * was, the old run of that update too.
+ * Starts an update of n nodes, or starts it afresh, open or closed, with no sends counted; `flags` and `count` as for a ring's start. The first start
+ * that is accepted fixes n for the whole table. 0, and no other update's places are written to; 3, 13, 1 or 2, in this order, with the table as it was,
+ * the old run of that update too.
  */
 static inline int muzserlik_table_start(struct muzserlik_table *table, size_t update, size_t n, const uint8_t *flags, size_t count)
 {
@@ -283,7 +283,8 @@ static inline int muzserlik_table_start(struct muzserlik_table *table, size_t up
 
 /*
  * One step of a ring, of an update; so TAKE reads j as how many messages it takes, 1 to 1,000, else 8, and one that leaves j 0 is refused with 8 now.
- * 0, and no other update's places are written to; 3, 13, 4 to 6, 8 or 9 with the table as it was.
+ * 0, and no other update's places are written to; 3, 13, 4 to 6, 8 or 9 with the table as it was. In a sound table the answer does not depend on the
+ * other updates; 9 is for the sends of this one.
  */
 static inline int muzserlik_table_step(struct muzserlik_table *table, size_t update, size_t kind, size_t i, size_t j)
 {
@@ -291,7 +292,7 @@ static inline int muzserlik_table_step(struct muzserlik_table *table, size_t upd
                                        table->received, table->pending, update, kind, i, j);
 }
 
-/* 1 where the table is sound, else 0: its started updates are sound rings of one n, with at most 1,000,000 sends together. */
+/* 1 where the table is sound, else 0: its started updates are sound rings of one n, each with at most 1,000,000 sends. */
 static inline int muzserlik_table_is_sound(const struct muzserlik_table *table)
 {
     return muzserlik_table_is_sound_fields(table->n, table->pos, table->q, table->black, table->closed, table->active, table->color,

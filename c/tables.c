@@ -283,37 +283,89 @@ static void one_node(struct muzserlik_table *table)
     CHECK(same_tables(table, &now));
 }
 
-/* Two updates with 999,999 sends between them: one more is accepted, of either; then 9 to both, until one of them is started afresh. */
+/*
+ * Update 0 has 999,999 sends: one more is accepted, then 9. Beside it update 6 sends before and after, and so does update 1, started then. A fresh
+ * start of update 0 sends again.
+ */
 static void limit(struct muzserlik_table *table)
 {
     const uint8_t flags[] = {1, 1};
-    const struct muzserlik_ring open = {.n = 2, .active = {1, 1}, .sent = {600000, 0}, .received = {0, 600000}, .black = 1};
-    const struct muzserlik_ring rest = {.n = 2, .active = {1, 1}, .sent = {0, 399999}, .received = {399998, 0}, .pending = {1, 0}, .black = 1};
+    const struct muzserlik_ring nearly = {.n = 2, .active = {1, 1}, .sent = {999999, 0}, .received = {0, 999999}, .black = 1};
+    const struct muzserlik_ring few = {.n = 2, .active = {1, 1}, .sent = {0, 3}, .received = {2, 0}, .pending = {1, 0}, .black = 1};
     *table = noise();
-    put(table, 0, &open);
-    put(table, 6, &rest);
-    CHECK(muzserlik_table_is_sound(table) == 1);
+    put(table, 0, &nearly);
+    put(table, 6, &few);
     struct muzserlik_table now = *table;
+    CHECK(muzserlik_table_step(table, 6, MUZSERLIK_SEND, 0, 1) == MUZSERLIK_ACCEPTED);
     CHECK(muzserlik_table_step(table, 0, MUZSERLIK_SEND, 0, 1) == MUZSERLIK_ACCEPTED);
-    now.sent[0][0] = 600001;
+    now.sent[6][0] = 1;
+    now.pending[6][1] = 1;
+    now.sent[0][0] = 1000000;
     now.pending[0][1] = 1;
     CHECK(same_tables(table, &now) && muzserlik_table_is_sound(table) == 1);
     CHECK(step_refusal(table, 0, MUZSERLIK_SEND, 0, 1) == MUZSERLIK_REFUSED_SEND_LIMIT);
-    CHECK(step_refusal(table, 6, MUZSERLIK_SEND, 0, 1) == MUZSERLIK_REFUSED_SEND_LIMIT);
-    CHECK(step_refusal(table, 6, MUZSERLIK_SEND, 0, 0) == MUZSERLIK_REFUSED_SEND_LIMIT);
-    CHECK(muzserlik_table_step(table, 6, MUZSERLIK_TAKE, 0, 1) == MUZSERLIK_ACCEPTED);
+    CHECK(step_refusal(table, 0, MUZSERLIK_SEND, 1, 1) == MUZSERLIK_REFUSED_SEND_LIMIT);
+    CHECK(step_refusal(table, 0, MUZSERLIK_SEND, 0, 2) == MUZSERLIK_REFUSED_UNKNOWN_NODE);
+    CHECK(muzserlik_table_step(table, 6, MUZSERLIK_SEND, 0, 0) == MUZSERLIK_ACCEPTED);
     CHECK(muzserlik_table_start(table, 1, 2, flags, 2) == MUZSERLIK_ACCEPTED);
-    CHECK(step_refusal(table, 1, MUZSERLIK_SEND, 0, 1) == MUZSERLIK_REFUSED_SEND_LIMIT);
-    struct muzserlik_table over = *table;
-    over.sent[1][0] = 1;
-    over.pending[1][1] = 1;
-    CHECK(muzserlik_table_is_sound(&over) == 0 && step_refusal(&over, 6, MUZSERLIK_IDLE, 0, 0) == MUZSERLIK_REFUSED_UNSOUND);
-    CHECK(start_refusal(table, 0, 3, flags, 2) == MUZSERLIK_REFUSED_NODE_COUNT);
-    CHECK(step_refusal(table, 1, MUZSERLIK_SEND, 0, 1) == MUZSERLIK_REFUSED_SEND_LIMIT);
-    CHECK(muzserlik_table_start(table, 0, 2, flags, 2) == MUZSERLIK_ACCEPTED);
     CHECK(muzserlik_table_step(table, 1, MUZSERLIK_SEND, 0, 1) == MUZSERLIK_ACCEPTED);
-    CHECK(muzserlik_table_step(table, 6, MUZSERLIK_SEND, 0, 1) == MUZSERLIK_ACCEPTED);
+    CHECK(muzserlik_table_step(table, 0, MUZSERLIK_TAKE, 1, 1) == MUZSERLIK_ACCEPTED);
+    CHECK(step_refusal(table, 0, MUZSERLIK_SEND, 1, 0) == MUZSERLIK_REFUSED_SEND_LIMIT);
+    CHECK(start_refusal(table, 0, 3, flags, 2) == MUZSERLIK_REFUSED_NODE_COUNT);
+    CHECK(step_refusal(table, 0, MUZSERLIK_SEND, 0, 1) == MUZSERLIK_REFUSED_SEND_LIMIT);
+    CHECK(muzserlik_table_start(table, 0, 2, flags, 2) == MUZSERLIK_ACCEPTED);
     CHECK(muzserlik_table_step(table, 0, MUZSERLIK_SEND, 0, 1) == MUZSERLIK_ACCEPTED);
+    const struct muzserlik_ring once = {.n = 2, .active = {1, 1}, .sent = {1, 0}, .pending = {0, 1}, .black = 1};
+    put(&now, 0, &once);
+    put(&now, 1, &once);
+    now.sent[6][0] = 2;
+    now.pending[6][0] = 2;
+    CHECK(same_tables(table, &now) && muzserlik_table_is_sound(table) == 1);
+}
+
+/* One to eight updates at 1,000,000 sends, each answering 9, until it is started afresh; with one more of any of them the table is not sound. */
+static void limits(struct muzserlik_table *table)
+{
+    const uint8_t flags[] = {1, 1};
+    const struct muzserlik_ring full = {.n = 2, .active = {1, 1}, .sent = {1000000, 0}, .received = {0, 1000000}, .black = 1};
+    const struct muzserlik_ring more = {.n = 2, .active = {1, 1}, .sent = {1000000, 1}, .received = {0, 1000001}, .black = 1};
+    *table = noise();
+    for (size_t u = 0; u < MUZSERLIK_UPDATES; u++) {
+        put(table, u, &full);
+        CHECK(muzserlik_table_is_sound(table) == 1);
+        for (size_t v = 0; v < MUZSERLIK_UPDATES; v++) {
+            struct muzserlik_table over = *table;
+            CHECK(step_refusal(table, v, MUZSERLIK_SEND, 0, 1) == (v <= u ? MUZSERLIK_REFUSED_SEND_LIMIT : MUZSERLIK_REFUSED_UNKNOWN_UPDATE));
+            put(&over, v, &more);
+            CHECK(muzserlik_table_is_sound(&over) == 0);
+            CHECK(step_refusal(&over, 0, MUZSERLIK_IDLE, 0, 0) == MUZSERLIK_REFUSED_UNSOUND);
+            CHECK(start_refusal(&over, v, 2, flags, 2) == MUZSERLIK_REFUSED_UNSOUND);
+        }
+    }
+    CHECK(muzserlik_table_start(table, 5, 2, flags, 2) == MUZSERLIK_ACCEPTED);
+    CHECK(muzserlik_table_step(table, 5, MUZSERLIK_SEND, 0, 1) == MUZSERLIK_ACCEPTED);
+    CHECK(step_refusal(table, 6, MUZSERLIK_SEND, 0, 1) == MUZSERLIK_REFUSED_SEND_LIMIT);
+    *table = noise();
+    put(table, 5, &more);
+    CHECK(muzserlik_table_is_sound(table) == 0);
+}
+
+/* Two updates with 1,000,000 sends between them, then 1,000,001 and 1,000,002: the limit of neither. */
+static void together(struct muzserlik_table *table)
+{
+    const struct muzserlik_ring most = {.n = 2, .active = {1, 1}, .sent = {600000, 0}, .received = {0, 600000}, .black = 1};
+    const struct muzserlik_ring rest = {.n = 2, .active = {1, 1}, .sent = {0, 400000}, .received = {400000, 0}, .black = 1};
+    *table = noise();
+    put(table, 3, &most);
+    put(table, 4, &rest);
+    struct muzserlik_table now = *table;
+    for (size_t u = 3; u <= 4; u++) {
+        CHECK(muzserlik_table_is_sound(table) == 1);
+        CHECK(muzserlik_table_step(table, u, MUZSERLIK_SEND, 0, 1) == MUZSERLIK_ACCEPTED);
+        now.sent[u][0]++;
+        now.pending[u][1]++;
+        CHECK(same_tables(table, &now));
+    }
     CHECK(muzserlik_table_is_sound(table) == 1);
 }
 
@@ -324,13 +376,21 @@ static unsigned draw(unsigned below)
     return (unsigned)(seed >> 33) % below;
 }
 
-/* Requests of all updates, each answered as the ring of that update answers; and the whole table after each. */
+/*
+ * Requests of all updates, each answered as the ring of that update answers; and the whole table after each. Four updates begin at their limit of
+ * sends or up to three below it.
+ */
 static void beside_rings(struct muzserlik_table *table)
 {
     struct muzserlik_ring rings[MUZSERLIK_UPDATES];
     struct muzserlik_table now = noise();
     int told[14] = {0}, own = 0;
     memset(rings, 0, sizeof rings);
+    for (size_t u = 0; u < MUZSERLIK_UPDATES; u += 2) {
+        const uint32_t sends = 1000000 - (uint32_t)u / 2;
+        rings[u] = (struct muzserlik_ring){.n = 3, .active = {1, 1, 1}, .sent = {sends}, .received = {0, sends}, .black = 1};
+        put(&now, u, &rings[u]);
+    }
     *table = now;
     for (int k = 0; k < 20000; k++) {
         const size_t u = draw(10), i = draw(4), j = draw(4), kind = draw(8);
@@ -351,7 +411,7 @@ static void beside_rings(struct muzserlik_table *table)
         told[expected]++;
         CHECK(answer == expected && same_tables(table, &now));
     }
-    for (int number = 4; number <= 8; number++)
+    for (int number = 4; number <= 9; number++)
         CHECK((told[number] > 0) == (number != 7));
     CHECK(told[0] > 1000 && told[13] > 1000 && own > 40 && muzserlik_table_is_sound(table) == 1);
 }
@@ -367,6 +427,8 @@ int main(void)
     takes(&table);
     one_node(&table);
     limit(&table);
+    limits(&table);
+    together(&table);
     beside_rings(&table);
     printf("calls from C on tables: %d checks\n", checks);
     return EXIT_SUCCESS;

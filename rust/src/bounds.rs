@@ -280,8 +280,17 @@ pub mod tables {
     pub const ANNOUNCED: usize = 1_000;
     /// Fresh starts of open updates, and of announced ones.
     pub const FRESH: usize = 500;
-    /// Sends that are accepted again since another update was started afresh.
-    pub const GIVEN_BACK: usize = 50;
+    /// Tables told as sound with one to all eight updates at their limits of sends; with none, but as many sends together as one may have, one more
+    /// and still more.
+    pub const FULL: usize = 50;
+    /// Tables told as not sound since one update has one send more than may be, beside others of each sort.
+    pub const OVER: usize = 500;
+    /// Sends accepted while the updates have as many sends together as one may have, one more, and still more: 9 before request Q-5.
+    pub const TOGETHER: usize = 300;
+    /// Sends accepted next after a 9 to another update, and refused with 9 next after an accepted one of another.
+    pub const BESIDE: usize = 300;
+    /// Fresh starts after a 9 that a send of the update followed.
+    pub const AFRESH: usize = 2_000;
     pub const TAKES: TakesAsked = TakesAsked {
         several: 2_000,
         reasons: 500,
@@ -307,6 +316,17 @@ pub mod tables {
         asked(LARGE_RINGS, 30_000, 10_000),
         asked(ring::MAX_NODES..=ring::MAX_NODES, 10_000, 3_000),
     ];
+}
+
+/// Of two tables that agree on one update.
+pub mod independence {
+    pub const PAIRS: usize = 500;
+    /// Each answer to that update, the same in both.
+    pub const ANSWER: usize = 200;
+    /// 9s to it, the others' sends being other numbers.
+    pub const NINES: usize = 1_000;
+    /// Sends of it that are accepted, the updates having as many sends together as one may have, or more, in one of the tables alone.
+    pub const PARTED: usize = 500;
 }
 
 /// Of the calls on rings that are made to be sound, or not to be by little.
@@ -339,12 +359,14 @@ pub mod answers {
     pub const RING_START: [usize; 3] = [0, 1, 2];
     pub const RING_DRIVE: [usize; 6] = [3, 4, 11, 100, 101, 102];
     pub const TABLE_START: [usize; 4] = [0, 1, 2, 13];
+    /// Of starts and steps of an update of a sound table whose N is fixed.
+    pub const OF_UPDATE: [usize; 9] = [0, 1, 2, 4, 5, 6, 8, 9, 13];
     pub const TREE_START: [usize; 3] = [0, 1, 6];
     pub const TREE_WRITE: [usize; 3] = [0, 3, 12];
     pub const TREE_READ: [usize; 4] = [0, 1, 6, 10];
     /// The refusals that a step of a log can meet. The others cannot come: 1 and 2, since they are a start's; 3, since a run keeps its state sound;
-    /// 5, since each word has a kind; 7, since it is retired; 9, since it needs 1,000,000 accepted sends before it and a log has at most 999,999
-    /// lines after its first; 11 and 12, since a log has no driver and the text of the tree always has room.
+    /// 5, since each word has a kind; 7, since it is retired; 9, since it needs 1,000,000 accepted sends of its run before it and a log has at most
+    /// 999,999 lines after its first; 11 and 12, since a log has no driver and the text of the tree always has room.
     pub const OF_LOG: [usize; 4] = [4, 6, 8, 10];
     /// The refusals of a step on a sound state; beside these it answers 0, or 3 if the state is not sound.
     pub const OF_SOUND: [usize; 5] = [4, 5, 6, 8, 9];

@@ -190,21 +190,21 @@ fn start(line: &[u8]) -> Result<Run, Refusal> {
 }
 
 impl Counts {
-    /// Counts an accepted step.
-    fn count(&mut self, request: Request) {
+    /// A step of the ring that these are of, counted if it is accepted.
+    fn step(&mut self, ring: &mut Ring, request: Request) -> Result<(), Refusal> {
+        ring.apply(request, self.sends)?;
         match request.kind {
             SEND => self.sends += 1,
             PROBE | PASS => self.moves += 1,
             _ => {}
         }
+        Ok(())
     }
 }
 
 impl RingRun {
     fn carry_out(&mut self, request: Request) -> Result<(), Refusal> {
-        self.ring.apply(request, self.counts.sends)?;
-        self.counts.count(request);
-        Ok(())
+        self.counts.step(&mut self.ring, request)
     }
 }
 
@@ -225,11 +225,10 @@ impl UpdatesRun {
         Ok(())
     }
 
+    /// A step of an update that is started, judged on its own count of sends.
     fn step(&mut self, update: usize, request: Request) -> Result<(), Refusal> {
-        let sends = self.counts.iter().map(|counts| counts.sends).sum();
-        self.table.apply(update, request, sends)?;
-        self.counts[update].count(request);
-        Ok(())
+        let ring = self.table.ring(update)?;
+        self.counts[update].step(ring, request)
     }
 }
 

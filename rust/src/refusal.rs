@@ -17,7 +17,7 @@ pub enum Refusal {
     UnknownNode = 6,
     /// The rule's condition fails.
     RuleFails = 8,
-    /// 1,000,000 sends were accepted already.
+    /// 1,000,000 sends of the run were accepted already; in a table each update has its own run.
     SendLimit = 9,
     /// A log line or a tree text is not one of the forms.
     NotAForm = 10,

@@ -13,7 +13,7 @@ pub const ACK: usize = 4;
 pub const LEAVE: usize = 5;
 pub const ANNOUNCE: usize = 6;
 
-/// Sends that one run accepts: refusal 9.
+/// Sends that one run accepts, in a table each update's own: refusal 9.
 pub const SEND_LIMIT: u32 = 1_000_000;
 
 /// A step's kind and numbers; those that the kind does not use are not read.

@@ -1,7 +1,7 @@
-//! Eight updates over the same nodes: request Q-1. Each is not started or a ring of its own.
+//! Eight updates over the same nodes: requests. Each is not started or a ring of its own, with its own limit of sends.
 
 use crate::refusal::Refusal;
-use crate::request::{Request, SEND_LIMIT};
+use crate::request::Request;
 use crate::ring::Ring;
 
 /// Numbers of updates are below it.
@@ -23,16 +23,10 @@ impl Table {
         self.started().next().map(|ring| ring.n)
     }
 
-    /// Sends of all started updates together, closed ones too.
-    pub fn sends(&self) -> u64 {
-        self.started().map(Ring::sends).sum()
-    }
-
-    /// Whether the started updates are sound, with one N and within the limit of sends.
+    /// Whether the started updates are sound rings with one N.
     pub fn is_sound(&self) -> bool {
         self.started().all(Ring::is_sound)
             && self.started().all(|ring| Some(ring.n) == self.nodes())
-            && self.sends() <= u64::from(SEND_LIMIT)
     }
 
     /// Starts an update, afresh if it was started: N and N flag bytes as for a ring.
@@ -57,23 +51,17 @@ impl Table {
         Ok(())
     }
 
-    /// One step of an update. A refused step leaves the table as it was.
+    /// One step of an update: the ring's own, on that update's ring. A refused step leaves the table as it was.
     pub fn step(&mut self, update: usize, request: Request) -> Result<(), Refusal> {
         if !self.is_sound() {
             return Err(Refusal::Unsound);
         }
-        let sends = self.sends();
-        self.apply(update, request, sends)
+        self.ring(update)?.step(request)
     }
 
-    /// One step on a table known to be sound, of which `sends` sends were accepted.
-    pub(crate) fn apply(
-        &mut self,
-        update: usize,
-        request: Request,
-        sends: u64,
-    ) -> Result<(), Refusal> {
+    /// The ring of a started update.
+    pub(crate) fn ring(&mut self, update: usize) -> Result<&mut Ring, Refusal> {
         let place = self.updates.get_mut(update).and_then(Option::as_mut);
-        place.ok_or(Refusal::UnknownUpdate)?.apply(request, sends)
+        place.ok_or(Refusal::UnknownUpdate)
     }
 }

@@ -1,8 +1,12 @@
-//! A table of eight updates: requests.
+//! A table of eight updates: requests.
 
+use second::bounds::answers::OF_UPDATE;
+use second::generate::Rng;
+use second::independence::{Calls, Met, Pair};
 use second::refusal::Refusal;
 use second::request::{Request, ANNOUNCE, IDLE, PASS, PROBE, SEND, SEND_LIMIT, TAKE};
 use second::ring::Ring;
+use second::sends::{of_each, together};
 use second::table::{Table, UPDATES};
 
 fn send(i: usize, j: usize) -> Request {
@@ -189,64 +193,186 @@ fn each_update_takes_from_its_own_inbox() {
 }
 
 #[test]
-fn soundness_asks_the_started_updates_together() {
-    let mut table = started(&[0, 5]);
-    let ring = table.updates[0].clone().unwrap();
-    table.updates[0] = with_sends(&ring, SEND_LIMIT);
-    assert!(table.is_sound());
-    table.updates[5] = with_sends(&ring, 1);
-    assert!(!table.is_sound());
-    table.updates[0] = with_sends(&ring, SEND_LIMIT - 1);
-    assert!(table.is_sound());
+fn soundness_asks_for_sound_rings_of_one_n() {
+    let table = started(&[0, 5]);
     let of_two = Ring::start(2, &[0; 2]).ok();
     for other in 0..UPDATES {
         let mut table = table.clone();
         table.updates[other] = of_two.clone();
         assert!(!table.is_sound());
     }
-    table.updates[5].as_mut().unwrap().n = 0;
-    assert!(!table.is_sound());
+    for update in [0, 5] {
+        let mut table = table.clone();
+        table.updates[update].as_mut().unwrap().n = 0;
+        assert!(!table.is_sound());
+    }
 }
 
-/// Two updates with 999,999 sends between them, one more, then 9; a fresh start gives its sends back.
+/// One to all eight updates at 1,000,000 sends; one of them with one more is not sound, whatever the others have.
 #[test]
-fn the_limit_of_sends_is_of_all_together() {
+fn each_update_may_have_as_many_sends_as_a_ring() {
+    let all: Vec<usize> = (0..UPDATES).collect();
+    let mut table = started(&all);
+    let ring = table.updates[0].clone().unwrap();
+    for update in all {
+        for sends in [0, 1, SEND_LIMIT - 1, SEND_LIMIT] {
+            table.updates[update] = with_sends(&ring, sends);
+            assert!(table.is_sound());
+        }
+        for over in 0..UPDATES {
+            let mut table = table.clone();
+            let ring = table.updates[over].as_mut().unwrap();
+            (ring.sent[0], ring.received[1]) = (SEND_LIMIT + 1, SEND_LIMIT + 1);
+            assert!(!table.is_sound());
+            refused(&table, Refusal::Unsound, |t| t.step(0, send(0, 1)));
+            refused(&table, Refusal::Unsound, |t| t.start(8, 4, &[4]));
+        }
+    }
+    assert_eq!(together(&of_each(&table)), 8_000_000);
+}
+
+/// Update 2 has 999,999 sends: one more, then 9; update 6 beside it sends before and after, and a fresh start of update 2 sends again.
+#[test]
+fn the_limit_of_sends_is_each_updates_own() {
     let mut table = started(&[2, 6]);
     let ring = table.updates[2].clone().unwrap();
-    table.updates[2] = with_sends(&ring, 400_000);
-    table.updates[6] = with_sends(&ring, SEND_LIMIT - 1 - 400_000);
+    table.updates[2] = with_sends(&ring, SEND_LIMIT - 1);
+    assert_eq!(table.step(6, send(0, 1)), Ok(()));
     assert_eq!(table.step(2, send(0, 1)), Ok(()));
-    assert_eq!(table.sends(), 1_000_000);
-    for update in [2, 6] {
-        refused(&table, Refusal::SendLimit, |t| t.step(update, send(0, 1)));
-        // What comes before 9 still does.
-        refused(&table, Refusal::RuleFails, |t| t.step(update, send(1, 0)));
-        refused(&table, Refusal::RuleFails, |t| t.step(update, send(1, 1)));
-        refused(&table, Refusal::SendLimit, |t| t.step(update, send(0, 0)));
-        refused(&table, Refusal::UnknownNode, |t| t.step(update, send(3, 3)));
-    }
+    refused(&table, Refusal::SendLimit, |t| t.step(2, send(0, 1)));
+    refused(&table, Refusal::SendLimit, |t| t.step(2, send(0, 0)));
+    // What comes before 9 still does.
+    refused(&table, Refusal::RuleFails, |t| t.step(2, send(1, 0)));
+    refused(&table, Refusal::RuleFails, |t| t.step(2, send(1, 1)));
+    refused(&table, Refusal::UnknownNode, |t| t.step(2, send(3, 3)));
+    assert_eq!(table.step(6, send(0, 1)), Ok(()));
     assert_eq!(table.step(2, Request::new(TAKE, 1, 1)), Ok(()));
+    refused(&table, Refusal::SendLimit, |t| t.step(2, send(1, 0)));
     assert_eq!(table.start(4, 3, &[1, 0, 0]), Ok(()));
-    refused(&table, Refusal::SendLimit, |t| t.step(4, send(0, 1)));
+    assert_eq!(table.step(4, send(0, 1)), Ok(()));
     refused(&table, Refusal::NodeCount, |t| t.start(2, 4, &[0; 4]));
+    refused(&table, Refusal::SendLimit, |t| t.step(2, send(0, 1)));
     assert_eq!(table.start(2, 3, &[0, 1, 0]), Ok(()));
-    assert_eq!(table.sends(), 1_000_000 - 400_001);
-    for update in [2, 4, 6] {
-        let sender = usize::from(update == 2);
-        assert_eq!(table.step(update, send(sender, 2)), Ok(()));
+    assert_eq!(table.step(2, send(1, 2)), Ok(()));
+    let sends = of_each(&table);
+    assert_eq!((sends[2], sends[4], sends[6]), (Some(1), Some(1), Some(2)));
+}
+
+/// Two updates with 1,000,000 and 1,000,001 sends between them, which is the limit of neither.
+#[test]
+fn what_updates_have_together_is_not_limited() {
+    for sends in [SEND_LIMIT - 400_000, SEND_LIMIT - 400_000 + 1] {
+        let mut table = started(&[1, 3]);
+        let ring = table.updates[1].clone().unwrap();
+        table.updates[1] = with_sends(&ring, 400_000);
+        table.updates[3] = with_sends(&ring, sends);
+        assert!(table.is_sound());
+        for update in [1, 3, 3, 1] {
+            assert_eq!(table.step(update, send(0, 1)), Ok(()));
+        }
+        let expected = (Some(400_002), Some(sends + 2));
+        assert_eq!((of_each(&table)[1], of_each(&table)[3]), expected);
     }
 }
 
-/// The sends of a closed update count until it is started afresh.
+/// All eight at 1,000,000 sends: 9 to each; each sends again once it is started afresh, and the ones after it still do not.
 #[test]
-fn a_closed_update_keeps_its_sends() {
+fn all_eight_at_their_limits() {
+    let all: Vec<usize> = (0..UPDATES).collect();
+    let mut table = started(&all);
+    for place in &mut table.updates {
+        *place = with_sends(place.as_ref().unwrap(), SEND_LIMIT);
+    }
+    for fresh in 0..UPDATES {
+        assert_eq!(table.start(fresh, 3, &[1, 0, 0]), Ok(()));
+        for update in 0..=fresh {
+            assert_eq!(table.step(update, send(0, 2)), Ok(()));
+        }
+        for update in fresh + 1..UPDATES {
+            refused(&table, Refusal::SendLimit, |t| t.step(update, send(0, 2)));
+        }
+    }
+}
+
+/// An announced update at its limit beside one that sends; started afresh, it begins with no sends.
+#[test]
+fn a_closed_update_at_its_limit() {
     let mut table = started(&[0, 1]);
     let mut closed = with_sends(table.updates[0].as_ref().unwrap(), SEND_LIMIT).unwrap();
     closed.active[0] = false;
     closed.drive(1_000).unwrap();
     assert_eq!(closed.step(Request::new(ANNOUNCE, 0, 0)), Ok(()));
     table.updates[0] = Some(closed);
-    refused(&table, Refusal::SendLimit, |t| t.step(1, send(0, 1)));
-    assert_eq!(table.start(0, 3, &[0; 3]), Ok(()));
+    refused(&table, Refusal::Closed, |t| t.step(0, send(0, 1)));
     assert_eq!(table.step(1, send(0, 1)), Ok(()));
+    assert_eq!(table.start(0, 3, &[1, 0, 0]), Ok(()));
+    assert_eq!(table.step(0, send(0, 1)), Ok(()));
+    assert_eq!(of_each(&table)[..2], [Some(1), Some(1)]);
+}
+
+/// Every step of a started update is the ring's own, also of one at its limit.
+#[test]
+fn a_step_is_the_rings_own() {
+    let mut table = started(&[0, 1, 2]);
+    for (update, sends) in [(0, 5), (1, SEND_LIMIT - 1), (2, SEND_LIMIT)] {
+        table.updates[update] = with_sends(table.updates[update].as_ref().unwrap(), sends);
+    }
+    // Kinds 0 to 7, nodes 0 to 3.
+    for k in 0..3 * 8 * 4 * 4 {
+        let (update, request) = (k / 128, Request::new(k / 16 % 8, k / 4 % 4, k % 4));
+        let mut next = table.clone();
+        let mut ring = table.updates[update].clone().unwrap();
+        assert_eq!(next.step(update, request), ring.step(request));
+        let mut expected = table.clone();
+        expected.updates[update] = Some(ring);
+        assert_eq!(next, expected);
+    }
+}
+
+/// Two tables that agree on one update give it the same answers, 9 among them.
+#[test]
+fn an_update_does_not_depend_on_the_others() {
+    let rng = &mut Rng::new(5);
+    let mut met = Met::default();
+    for _ in 0..100 {
+        assert_eq!(Pair::new(rng).run(&mut met, rng), Ok(()));
+    }
+    for (number, count) in met.answers.iter().enumerate() {
+        assert_eq!(*count > 0, OF_UPDATE.contains(&number), "{number}");
+    }
+    assert!(met.nines > 50 && met.parted > 50);
+}
+
+/// A table with one limit for all updates together, as it was before request Q-5.
+struct Together(Table);
+
+impl Calls for Together {
+    fn start(&mut self, update: usize, n: usize, flags: &[u8]) -> usize {
+        Calls::start(&mut self.0, update, n, flags)
+    }
+
+    fn step(&mut self, update: usize, request: Request) -> usize {
+        let mut next = self.0.clone();
+        let answer = Calls::step(&mut next, update, request);
+        let spent = together(&of_each(&self.0)) >= u64::from(SEND_LIMIT);
+        if (answer, request.kind, spent) == (0, SEND, true) {
+            return Refusal::SendLimit.number() as usize;
+        }
+        self.0 = next;
+        answer
+    }
+
+    fn table(&self) -> Table {
+        self.0.clone()
+    }
+}
+
+#[test]
+fn one_limit_for_all_is_found() {
+    let rng = &mut Rng::new(5);
+    let found = |rng: &mut Rng| {
+        let mut pair = Pair::new(rng).lent(Together);
+        pair.run(&mut Met::default(), rng).is_err()
+    };
+    assert!((0..20).any(|_| found(rng)));
 }

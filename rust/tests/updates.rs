@@ -1,4 +1,4 @@
-//! Logs of updates: request Q-1, "The log", and requests.
+//! Logs of updates: request Q-1, "The log", and requests.
 
 use second::log::{run, Log, LINE_BYTES, LINE_LIMIT};
 use second::ring::MAX_NODES;
@@ -247,6 +247,18 @@ fn lines_past_the_limit_are_not_read() {
     log.extend(b"(update 7 (probe))\n(update 7 (pass 1))\n(update 0 (ring 2))\n");
     assert!(answers(&log).ends_with(
         "(no 999999 10)\n(ok 1000000)\n(update 7 (end (boards 2) (holder 1) (moves 1) (flight 0) (black 0)))\n"
+    ));
+}
+
+/// The most sends that a log can ask of one update: each is accepted, none is the one after 1,000,000.
+#[test]
+fn no_log_reaches_the_limit_of_sends() {
+    let mut log = b"(update 7 (ring 2 (active 0) (black)))\n".to_vec();
+    log.extend(b"(update 7 (send 0 1))\n".repeat(LINE_LIMIT as usize));
+    let told = answers(&log);
+    assert!(!told.contains("(no "));
+    assert!(told.ends_with(
+        "(ok 1000000)\n(update 7 (end (boards 2) (holder 0) (moves 0) (flight 999999) (black 0)))\n"
     ));
 }
 

@@ -7,7 +7,6 @@ use mathlib.Core.Path.{_∙_, _≡_, ap, refl, subst, sym}
 use native.Mathlib.Decide.{ℕ-discrete}
 use native.Mathlib.Omega.{arith}
 use Rattle.laws.proofs.Places.{all-at, all-from}
-use Rattle.laws.proofs.Sums.{sum-zero}
 use Rattle.laws.proofs.Tests.{false-true}
 use Rattle.laws.specs.Places.{allTo}
 use Rattle.refusal.proofs.Table.{not-both}
@@ -21,7 +20,7 @@ use Rattle.table_rules.proofs.Slots.{never-started, started-inside}
 use Rattle.table_rules.proofs.Soundness.{true-table}
 use Rattle.table_rules.specs.Answers.{Ask, after, names, nextTable, slotAfter, verdictOn}
 use Rattle.table_rules.specs.Soundness.{SoundTable}
-use Rattle.table_rules.specs.Table.{NotStarted, Slot, Started, put, sends, sendsOf, slotAt, slotOf}
+use Rattle.table_rules.specs.Table.{NotStarted, Slot, Started, put, slotAt, slotOf}
 use Rattle.lent.proofs.Ring.{ring-held}
 use Rattle.lent.proofs.Table.{in-at, in-places, put-eight, put-others, put-table, put-there}
 use Rattle.lent.specs.Ring.{lentOf}
@@ -119,13 +118,11 @@ module _ (m : LentTable) (z : (u : ℕ) → u < 8 → fieldsAt m u .n ≡ 0) whe
   none-started u r p = never-started (sym (none-at u (started-inside (tableIn m) u r (in-places m) p)) ∙ p)
 
   none-sound : SoundTable (tableIn m)
-  unfolding sends
   none-sound =
       record {
         places = in-places m;
         each = λ u r p. absurd (none-started u r p);
         one-n = λ u v r s p p′. absurd (none-started u r p);
-        limit = omega (arith, sum-zero 8 (λ u. sendsOf (slotAt (tableIn m) u)) (λ u h. ap sendsOf (none-at u h)));
       }
 
   pub none-told : tableSoundNumber m ≡ 1

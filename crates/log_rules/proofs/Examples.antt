@@ -16,7 +16,7 @@ use Rattle.ring_rules.specs.State.{blackNodes, inTransit}
 use Rattle.signed.specs.Integers.{_⊖_, isPositive, isSame, isZero}
 use Rattle.table_rules.specs.Answers.{answerOn, verdictOn}
 use Rattle.table_rules.specs.Soundness.{soundTableTest}
-use Rattle.table_rules.specs.Table.{fixed, nodesTo, sends}
+use Rattle.table_rules.specs.Table.{fixed, nodesTo}
 use Rattle.update_forms.specs.Read.{closedRead, innerOf, insideAt, openedOf, spaceAfter, updateAt, wrappedAt}
 use Rattle.log_rules.specs.Answers.{endsTo, lineTold}
 use Rattle.log_rules.specs.Examples.{ExamplesHold, expected, outputs}
@@ -35,5 +35,5 @@ use Rattle.tree_rules.specs.Termination.{acksTotal}
 use Rattle.tree_text.specs.Text.{childrenText, listText, nodeText}
 
 pub examples-hold : ExamplesHold
-unfolding scanOf checked number.numberAt keptOf digits decimal starts line spacedOf closedOf oneOf secondOf twoOf madeOf readBy endsLine lined ringAt treeAt entryOf entriesOf read.activeRead read.blackRead read.afterActive read.afterBlack listsAt ringAfter rootAfter treeAfter startAt firstAt spaceAfter openedOf innerOf closedRead insideAt updateAt wrappedAt nodesTo fixed sends soundTableTest verdictOn answerOn endsTo lineTold split linesTold restOf verdictOf answerOf conclusive mayProbe mayPass shapeTest rangeTest flowTest sumTest passiveAbove whiteTo gatheredTest safraTest unusedTest closedTest soundTest activeFrom colorFrom firstState inTransit blackNodes isBlack blackened whitened _⊖_ isPositive isZero isSame countTo outputs expected tree.verdictOf tree.answerOf mayLeave treeRules.conclusive sound.shapeTest sound.rangeTest engagerTest chainTest balanceTest restTest pairTest placeTest limitTest sound.closedTest sound.soundTest treeStart.firstState treeStart.startVerdict messagesFrom children climb acksTotal sumTo childrenText nodeText listText
+unfolding scanOf checked number.numberAt keptOf digits decimal starts line spacedOf closedOf oneOf secondOf twoOf madeOf readBy endsLine lined ringAt treeAt entryOf entriesOf read.activeRead read.blackRead read.afterActive read.afterBlack listsAt ringAfter rootAfter treeAfter startAt firstAt spaceAfter openedOf innerOf closedRead insideAt updateAt wrappedAt nodesTo fixed soundTableTest verdictOn answerOn endsTo lineTold split linesTold restOf verdictOf answerOf conclusive mayProbe mayPass shapeTest rangeTest flowTest sumTest passiveAbove whiteTo gatheredTest safraTest unusedTest closedTest soundTest activeFrom colorFrom firstState inTransit blackNodes isBlack blackened whitened _⊖_ isPositive isZero isSame countTo outputs expected tree.verdictOf tree.answerOf mayLeave treeRules.conclusive sound.shapeTest sound.rangeTest engagerTest chainTest balanceTest restTest pairTest placeTest limitTest sound.closedTest sound.soundTest treeStart.firstState treeStart.startVerdict messagesFrom children climb acksTotal sumTo childrenText nodeText listText
 examples-hold = refl

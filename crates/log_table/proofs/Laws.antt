@@ -119,19 +119,19 @@ neither {n} {top} h = go (ltb 96 n) refl h
     go true e p = absurd (false-true (sym p))
     go false e p = (ltb-false 96 n e, ltb-false n top p)
 
-pub barred-told : (m : Memory) (k : ℕ) (u : ℕ) (f : First) (v : Verdict) → Lent m k → Barred f ≡ true
-    → v ≡ firstOf (barredTable (fixed (tableOf m)) u (f .n)) → StartTold (tableOf m) u f v m k
-barred-told m k u f v lent h e =
+pub barred-told : (m : Memory) (u : ℕ) (f : First) (v : Verdict) → Lent m → Barred f ≡ true
+    → v ≡ firstOf (barredTable (fixed (tableOf m)) u (f .n)) → StartTold (tableOf m) u f v m
+barred-told m u f v lent h e =
     record {
       verdict = e ∙ barred-rows (tableOf m) u f h;
       table = rw e (sym (refused-rows (not (ltb u 8)) (not (eqb (fixed (tableOf m)) 0) && not (eqb (f .n) (fixed (tableOf m)))) (not (ltb 0 (f .n) && leb (f .n) 96)) _ _));
       lent = lent;
     }
 
-pub start-told : (m m′ : Memory) (k k′ u : ℕ) (f : First) (v : Verdict) → Lent m k → Flags (f .flags) → f .top ≤ f .n → f .n ≤ 96
-    → StepDone m (updateAsk u f) v m′ k′ → StartTold (tableOf m) u f v m′ k′
+pub start-told : (m m′ : Memory) (u : ℕ) (f : First) (v : Verdict) → Lent m → Flags (f .flags) → f .top ≤ f .n → f .n ≤ 96
+    → StepDone m (updateAsk u f) v m′ → StartTold (tableOf m) u f v m′
 unfolding answerOn
-start-told m m′ k k′ u f v lent g top many d =
+start-told m m′ u f v lent g top many d =
     let e : v ≡ firstOf (updateTable (tableOf m) u f) = ap (λ (a : TableAnswer). a .verdict) (d .answer) ∙ update-verdict f g many (tableOf m) (lent .sound) u top in
     record {
       verdict = e;
@@ -163,7 +163,7 @@ answered-went r t m m′ ms ms′ piece out out′ x e is en past inside under a
 
 -- a step that is carried out
 pub step-answered : (r t : TableRun) (m m′ : Memory) (ms ms′ : List ℕ) (u : ℕ) (f : RingStep) (end : ℕ) (out out′ : List ℕ) (v : Verdict) (kind i j d : ℕ)
-    → Moves ms (r .lines) → StepDone m (Step u (record { kind = kind; i = i; j = j })) v m′ (t .sends)
+    → Moves ms (r .lines) → StepDone m (Step u (record { kind = kind; i = i; j = j })) v m′
     → (kind ≡ ringRequest f .kind) × (i ≡ ringRequest f .i) × (j ≡ ringRequest f .j)
     → (d ≡ cond (isMove f && isAccepted v) 1 0) × (d ≤ 1)
     → ms′ ≡ addAt ms u d → t .lines ≡ r .lines + 1 → t .next ≡ end
@@ -189,7 +189,7 @@ step-answered r t m m′ ms ms′ u f end out out′ v kind i j d few done asked
 
 -- a start that is carried out
 pub start-answered : (r t : TableRun) (m m′ : Memory) (ms ms′ : List ℕ) (u : ℕ) (f : First) (out out′ : List ℕ) (v : Verdict)
-    → Moves ms (r .lines) → StartTold (tableOf m) u f v m′ (t .sends)
+    → Moves ms (r .lines) → StartTold (tableOf m) u f v m′
     → ms′ ≡ settle v (set ms u 0) ms → t .lines ≡ r .lines + 1 → t .next ≡ f .end
     → Wrote out (r .at) (answerText (r .lines + 1) v) (t .at) out′
     → LineAnswered r t m′ ms′ (updateStartTold (tableOf m) ms (r .lines + 1) u f) (f .end) out out′
@@ -204,17 +204,17 @@ start-answered r t m m′ ms ms′ u f out out′ v few told moves lines past wr
     }
 
 -- a line that says no form
-pub formless-answered : (r t : TableRun) (m : Memory) (ms : List ℕ) (end : ℕ) (out out′ : List ℕ) → Lent m (r .sends) → Moves ms (r .lines)
-    → t .sends ≡ r .sends → t .lines ≡ r .lines + 1 → t .next ≡ end
+pub formless-answered : (r t : TableRun) (m : Memory) (ms : List ℕ) (end : ℕ) (out out′ : List ℕ) → Lent m → Moves ms (r .lines)
+    → t .lines ≡ r .lines + 1 → t .next ≡ end
     → Wrote out (r .at) (answerText (r .lines + 1) (Refused NotAForm)) (t .at) out′
     → LineAnswered r t m ms (tableTold (tableOf m) ms (r .lines + 1) Read.other) end out out′
-formless-answered r t m ms end out out′ lent few sends lines past wrote =
+formless-answered r t m ms end out out′ lent few lines past wrote =
     record {
       stage = refl;
       wrote = wrote;
       line = lines;
       past = past;
-      lent = subst (Lent m) (sym sends) lent;
+      lent = lent;
       moves = subst (Moves ms) (sym lines) (later-few ms (r .lines) few);
     }
 
@@ -277,9 +277,9 @@ pub fed-by : {r t : TableRun} {m m′ : Memory} {t₀ : Table} {ms ms′ piece o
     → f .moves ≡ ms′ → f .lines ≡ t .lines → f .next ≡ t .next → f .at ≡ t .at
     → TableWent r t m m′ ms ms′ piece out out′ → NoMore (t .lines) (t .next) piece
     → LinesFed t₀ ms (r .lines) piece (r .next) out (r .at) f out′
-fed-by {t = t} {m′ = m′} f first last c l n a w no-more = record {
+fed-by {m′ = m′} f first last c l n a w no-more = record {
   went = rw (← first, ← last .same, c, l, n, a) (w .went);
-  sound = sound-by m′ (f .table) last (t .sends) (w .lent);
+  sound = sound-by m′ (f .table) last (w .lent);
   moves = rw (c, l) (w .moves);
   spent = rw (l, n) no-more;
 }

@@ -35,10 +35,10 @@ barredTable fixed u n =
     ∷ []
 
 -- a start is carried out by the definitions: m′ is the table after it
-pub record StartTold (t : rules.Table) (u : ℕ) (f : First) (v : Verdict) (m′ : Memory) (sends : ℕ) : Type 0 where
+pub record StartTold (t : rules.Table) (u : ℕ) (f : First) (v : Verdict) (m′ : Memory) : Type 0 where
   pub verdict : v ≡ firstOf (updateTable t u f)
   pub table : tableOf m′ ≡ settle v (after t (updateAsk u f)) t
-  pub lent : Lent m′ sends
+  pub lent : Lent m′
 
 -- what is read of a line is a ring's start
 abbrev pub isRing : FirstKind → Bool
@@ -52,7 +52,7 @@ NoStep piece at = NotAForm ≡ updateLineOf (wrappedAt piece at)
 
 -- one more line can be answered
 pub record Ready (r : TableRun) (m : Memory) (ms out : List ℕ) : Type 0 where
-  pub lent : Lent m (r .sends)
+  pub lent : Lent m
   pub moves : Moves ms (r .lines)
   pub under : r .lines < lineLimit
   pub room : r .at + answerBytes ≤ length out
@@ -63,7 +63,7 @@ pub record LineAnswered (r t : TableRun) (m′ : Memory) (ms′ : List ℕ) (x :
   pub wrote : Wrote out (r .at) (x .text) (t .at) out′
   pub line : t .lines ≡ r .lines + 1
   pub past : t .next ≡ end
-  pub lent : Lent m′ (t .sends)
+  pub lent : Lent m′
   pub moves : Moves ms′ (t .lines)
 
 -- the table is sound, and the buffer has the bytes of an answer for each byte of the piece that is left
@@ -75,7 +75,7 @@ pub record Fits (t : rules.Table) (ms : List ℕ) (lines : ℕ) (piece : List �
   pub room : at + (length piece - from) * answerBytes ≤ length out
 
 pub record Inside (r : TableRun) (m : Memory) (ms piece out : List ℕ) : Type 0 where
-  pub lent : Lent m (r .sends)
+  pub lent : Lent m
   pub moves : Moves ms (r .lines)
   pub most : r .lines ≤ lineLimit
   pub inside : r .next ≤ length piece
@@ -84,7 +84,7 @@ pub record Inside (r : TableRun) (m : Memory) (ms piece out : List ℕ) : Type 0
 -- lines of the piece are answered, and the table is sound after them
 pub record TableWent (r t : TableRun) (m m′ : Memory) (ms ms′ piece out out′ : List ℕ) : Type 0 where
   pub went : Went (onTable (tableOf m) ms) (onTable (tableOf m′) ms′) (r .lines) (t .lines) (r .next) (t .next) (r .at) (t .at) piece out out′
-  pub lent : Lent m′ (t .sends)
+  pub lent : Lent m′
   pub moves : Moves ms′ (t .lines)
 
 -- all lines of the piece that are whole are answered

@@ -12,12 +12,10 @@ use refusal::Refusal;
 use refusal::UPDATES;
 use refusal::Verdict;
 use table::Table;
-use table_columns::count_sends;
 use table_columns::gather;
 use table_columns::scatter;
 use table_start::fixed_of;
 use table_start::is_other;
-use table_steps::Done;
 use update_forms::UpdateLine;
 use update_forms::update_start;
 use update_forms::update_step;
@@ -35,10 +33,8 @@ ghost use Rattle.table_start.specs.Fixed.{fixedIn};
 ghost use Rattle.table.specs.View as tableView;
 ghost use Rattle.log_table.specs.Run.{barredTable, isRing, StartTold, NoStep, Ready, LineAnswered, Inside, TableWent, Fits, LinesFed};
 
-// Where a run stands: the sends of the eight, the lines answered, the index of the next line in the piece, and of the next answer in the
-// buffer.
+// Where a run stands: the lines answered, the index of the next line in the piece, and of the next answer in the buffer.
 pub struct TableRun {
-    pub sends: u64,
     pub lines: u64,
     pub next: usize,
     pub at: usize,
@@ -134,7 +130,7 @@ fn step_line(
         end (now (out .entry)) (now (out .exit)) ⌝ }
 {
     let x = request_of(f);
-    let d = table_steps::step(
+    let v = table_steps::step(
         n,
         pos,
         q,
@@ -145,18 +141,15 @@ fn step_line(
         sent,
         received,
         pending,
-        r.sends,
         u,
         x.kind,
         x.i,
         x.j,
     );
-    let v = d.verdict;
     add_moves(moves, u, moved(f, v));
     let lines = r.lines + 1;
     let at = put_answer(out, r.at, lines, v);
     TableRun {
-        sends: d.sends,
         lines,
         next: end,
         at,
@@ -194,21 +187,16 @@ fn start_update(
     sent: &mut [[u32; RING_NODES]; UPDATES],
     received: &mut [[u32; RING_NODES]; UPDATES],
     pending: &mut [[u32; RING_NODES]; UPDATES],
-    sends: u64,
     u: usize,
     f: First,
-) -> Done
-    requires { ⌜ Lent (memory (now n) (now pos) (now q) (now black) (now closed) (now active) (now color) (now sent) (now received) (now pending)) sends × Flags (f .flags) ⌝ }
-    ensures { λ d. ⌜ StartTold (tableOf (memory (now (n .entry)) (now (pos .entry)) (now (q .entry)) (now (black .entry)) (now (closed .entry)) (now (active .entry)) (now (color .entry)) (now (sent .entry)) (now (received .entry)) (now (pending .entry)))) u f (d .verdict)
-        (memory (now (n .exit)) (now (pos .exit)) (now (q .exit)) (now (black .exit)) (now (closed .exit)) (now (active .exit)) (now (color .exit)) (now (sent .exit)) (now (received .exit)) (now (pending .exit)))
-        (d .sends) ⌝ }
+) -> Verdict
+    requires { ⌜ Lent (memory (now n) (now pos) (now q) (now black) (now closed) (now active) (now color) (now sent) (now received) (now pending)) × Flags (f .flags) ⌝ }
+    ensures { λ v. ⌜ StartTold (tableOf (memory (now (n .entry)) (now (pos .entry)) (now (q .entry)) (now (black .entry)) (now (closed .entry)) (now (active .entry)) (now (color .entry)) (now (sent .entry)) (now (received .entry)) (now (pending .entry)))) u f v
+        (memory (now (n .exit)) (now (pos .exit)) (now (q .exit)) (now (black .exit)) (now (closed .exit)) (now (active .exit)) (now (color .exit)) (now (sent .exit)) (now (received .exit)) (now (pending .exit))) ⌝ }
 {
     let nodes = f.n;
     if (RING_NODES < nodes) | (nodes < f.top) {
-        return Done {
-            verdict: barred(n, u, nodes),
-            sends,
-        };
+        return barred(n, u, nodes);
     }
     let flags = f.flags;
     table_start::start(
@@ -222,7 +210,6 @@ fn start_update(
         sent,
         received,
         pending,
-        sends,
         u,
         nodes,
         &flags[..nodes],
@@ -254,7 +241,7 @@ fn start_line(
         (updateStartTold (tableOf (memory (now (n .entry)) (now (pos .entry)) (now (q .entry)) (now (black .entry)) (now (closed .entry)) (now (active .entry)) (now (color .entry)) (now (sent .entry)) (now (received .entry)) (now (pending .entry)))) (now (moves .entry)) (r .lines + 1) u f)
         (f .end) (now (out .entry)) (now (out .exit)) ⌝ }
 {
-    let d = start_update(
+    let v = start_update(
         n,
         pos,
         q,
@@ -265,16 +252,13 @@ fn start_line(
         sent,
         received,
         pending,
-        r.sends,
         u,
         f,
     );
-    let v = d.verdict;
     clear_moves(moves, u, v);
     let lines = r.lines + 1;
     let at = put_answer(out, r.at, lines, v);
     TableRun {
-        sends: d.sends,
         lines,
         next: f.end,
         at,
@@ -284,13 +268,12 @@ fn start_line(
 // A line that says no form of an update, which ends before index `end`.
 fn formless_line(r: TableRun, end: usize, out: &mut [u8]) -> TableRun
     requires { ⌜ (r .lines < lineLimit) × (r .at + answerBytes ≤ length (now out)) ⌝ }
-    ensures { λ t. ⌜ (t .sends ≡ r .sends) × (t .lines ≡ r .lines + 1) × (t .next ≡ end)
+    ensures { λ t. ⌜ (t .lines ≡ r .lines + 1) × (t .next ≡ end)
         × Wrote (now (out .entry)) (r .at) (answerText (r .lines + 1) (Verdict.Refused Refusal.NotAForm)) (t .at) (now (out .exit)) ⌝ }
 {
     let lines = r.lines + 1;
     let at = put_answer(out, r.at, lines, Verdict::Refused(Refusal::NotAForm));
     TableRun {
-        sends: r.sends,
         lines,
         next: end,
         at,
@@ -488,7 +471,6 @@ pub fn table_piece(
     requires { ⌜ Fits (tableView.table table) moves lines (now piece) from (now out) at ⌝ }
     ensures { λ f. ⌜ LinesFed (tableView.table table) moves lines (now (piece .entry)) from (now (out .entry)) at f (now (out .exit)) ⌝ }
 {
-    let sends = count_sends(table);
     let mut n = [0usize; UPDATES];
     let mut pos = [0usize; UPDATES];
     let mut q = [0i64; UPDATES];
@@ -514,7 +496,6 @@ pub fn table_piece(
     );
     let mut counts = moves;
     let first = TableRun {
-        sends,
         lines,
         next: from,
         at,

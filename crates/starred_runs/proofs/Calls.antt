@@ -15,7 +15,7 @@ use Rattle.ring_rules.specs.Soundness.{flowTest, gatheredTest, passiveAbove, sa
 use Rattle.signed.specs.Integers.{_⊖_, isPositive, isSame, isZero}
 use Rattle.table_rules.specs.Answers.{verdictOn}
 use Rattle.table_rules.specs.Soundness.{soundTableTest}
-use Rattle.table_rules.specs.Table.{fixed, nodesTo, sends}
+use Rattle.table_rules.specs.Table.{fixed, nodesTo}
 use Rattle.tree_rules.specs.Soundness.{balanceTest, chainTest, engagerTest, limitTest, pairTest, placeTest, restTest}
 use Rattle.tree_rules.specs.State.{children, climb, messagesFrom}
 use Rattle.tree_text.specs.Read.{andThen, bodyOf, closed, entered, listOf, nodeBy, nodeOf, readOf}
@@ -40,5 +40,5 @@ unfolding calls lent.starts lent.steps lent.soundness lent.drives lent.flags len
 calls-pass = refl
 
 pub table-calls-pass : allPass tableCalls ≡ true
-unfolding tableCalls lentTable.starts lentTable.steps lentTable.soundness passes allPass tableTruths tableIn truthsTest areFlags bytesOf flagsOf isBlack blackened whitened _⊖_ isPositive isZero isSame sumTo ringRules.conclusive ringSound.shapeTest ringSound.rangeTest flowTest sumTest passiveAbove whiteTo gatheredTest safraTest unusedTest ringSound.closedTest ringSound.soundTest mayProbe mayPass ringStart.activeFrom ringStart.colorFrom ringStart.flagsTest ringStart.firstState nodesTo fixed sends soundTableTest verdictOn
+unfolding tableCalls lentTable.starts lentTable.steps lentTable.soundness passes allPass tableTruths tableIn truthsTest areFlags bytesOf flagsOf isBlack blackened whitened _⊖_ isPositive isZero isSame sumTo ringRules.conclusive ringSound.shapeTest ringSound.rangeTest flowTest sumTest passiveAbove whiteTo gatheredTest safraTest unusedTest ringSound.closedTest ringSound.soundTest mayProbe mayPass ringStart.activeFrom ringStart.colorFrom ringStart.flagsTest ringStart.firstState nodesTo fixed soundTableTest verdictOn
 table-calls-pass = refl

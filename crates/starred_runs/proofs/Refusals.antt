@@ -19,7 +19,7 @@ use Rattle.ring_rules.specs.State.{blackNodes, inTransit}
 use Rattle.signed.specs.Integers.{_⊖_, isPositive, isSame, isZero}
 use Rattle.table_rules.specs.Answers.{verdictOn}
 use Rattle.table_rules.specs.Soundness.{soundTableTest}
-use Rattle.table_rules.specs.Table.{fixed, nodesTo, sends}
+use Rattle.table_rules.specs.Table.{fixed, nodesTo}
 use Rattle.tree_rules.specs.Rules.{mayLeave}
 use Rattle.tree_rules.specs.Soundness.{balanceTest, chainTest, engagerTest, limitTest, pairTest, placeTest, restTest}
 use Rattle.tree_rules.specs.State.{children, climb, messagesFrom}
@@ -45,5 +45,5 @@ use Rattle.tree_rules.specs.Start as treeStart
 use Rattle.tree_runs.specs.Requests as treeRequests
 
 pub refusals-pass : allPass refusals ≡ true
-unfolding refusals order outside limits passes allPass ringRequests.numbers treeRequests.numbers isBlack blackened whitened _⊖_ isPositive isZero isSame sumTo ringRules.conclusive ringSound.shapeTest ringSound.rangeTest flowTest sumTest passiveAbove whiteTo gatheredTest safraTest unusedTest ringSound.closedTest ringSound.soundTest mayProbe mayPass ring.verdictOf mayMove moveOf driveFrom driveOf activeFrom colorFrom flagsTest ringStart.firstState ringStart.blank ringStart.startOf ringStart.startVerdict countTo messagesFrom children climb treeRules.conclusive treeSound.shapeTest treeSound.rangeTest engagerTest chainTest balanceTest restTest pairTest placeTest limitTest treeSound.closedTest treeSound.soundTest mayLeave tree.verdictOf treeStart.firstState treeStart.blank treeStart.startOf treeStart.startVerdict decimal digits childrenText nodeText writeVerdict writtenOf lineTold split linesTold restOf ring.answerOf tree.answerOf inTransit blackNodes acksTotal starts scanOf checked number.numberAt keptOf spacedOf closedOf oneOf secondOf twoOf madeOf readBy endsLine lined ringAt treeAt entryOf entriesOf first.activeRead first.blackRead listsAt ringAfter rootAfter treeAfter startAt firstAt openedOf spaceAfter innerOf insideAt closedRead updateAt wrappedAt nodesTo fixed sends soundTableTest verdictOn
+unfolding refusals order outside limits passes allPass ringRequests.numbers treeRequests.numbers isBlack blackened whitened _⊖_ isPositive isZero isSame sumTo ringRules.conclusive ringSound.shapeTest ringSound.rangeTest flowTest sumTest passiveAbove whiteTo gatheredTest safraTest unusedTest ringSound.closedTest ringSound.soundTest mayProbe mayPass ring.verdictOf mayMove moveOf driveFrom driveOf activeFrom colorFrom flagsTest ringStart.firstState ringStart.blank ringStart.startOf ringStart.startVerdict countTo messagesFrom children climb treeRules.conclusive treeSound.shapeTest treeSound.rangeTest engagerTest chainTest balanceTest restTest pairTest placeTest limitTest treeSound.closedTest treeSound.soundTest mayLeave tree.verdictOf treeStart.firstState treeStart.blank treeStart.startOf treeStart.startVerdict decimal digits childrenText nodeText writeVerdict writtenOf lineTold split linesTold restOf ring.answerOf tree.answerOf inTransit blackNodes acksTotal starts scanOf checked number.numberAt keptOf spacedOf closedOf oneOf secondOf twoOf madeOf readBy endsLine lined ringAt treeAt entryOf entriesOf first.activeRead first.blackRead listsAt ringAfter rootAfter treeAfter startAt firstAt openedOf spaceAfter innerOf insideAt closedRead updateAt wrappedAt nodesTo fixed soundTableTest verdictOn
 refusals-pass = refl

@@ -10,7 +10,7 @@ use Rattle.ring_rules.specs.Soundness.{flowTest, gatheredTest, passiveAbove, sa
 use Rattle.signed.specs.Integers.{_⊖_, isPositive, isSame, isZero}
 use Rattle.table_rules.specs.Answers.{verdictOn}
 use Rattle.table_rules.specs.Soundness.{soundTableTest}
-use Rattle.table_rules.specs.Table.{fixed, nodesTo, sends}
+use Rattle.table_rules.specs.Table.{fixed, nodesTo}
 use Rattle.tree_rules.specs.Soundness.{balanceTest, chainTest, engagerTest, limitTest, pairTest, placeTest, restTest}
 use Rattle.tree_rules.specs.State.{children, climb, messagesFrom}
 use Rattle.tree_text.specs.Text.{childrenText, nodeText}
@@ -38,5 +38,5 @@ unfolding trees rowsOfTree.chains rowsOfTree.balance rowsOfTree.resting rowsOfTr
 trees-pass = refl
 
 pub updates-pass : allPass updates ≡ true
-unfolding updates passes allPass isBlack blackened _⊖_ isPositive isZero isSame sumTo ringRules.conclusive ringSound.shapeTest ringSound.rangeTest flowTest sumTest passiveAbove whiteTo gatheredTest safraTest unusedTest ringSound.closedTest ringSound.soundTest mayProbe ringStart.flagsTest nodesTo fixed sends soundTableTest verdictOn
+unfolding updates passes allPass isBlack blackened _⊖_ isPositive isZero isSame sumTo ringRules.conclusive ringSound.shapeTest ringSound.rangeTest flowTest sumTest passiveAbove whiteTo gatheredTest safraTest unusedTest ringSound.closedTest ringSound.soundTest mayProbe ringStart.flagsTest nodesTo fixed soundTableTest verdictOn
 updates-pass = refl

@@ -2,7 +2,7 @@
 -- table of refusals; 0 where a request is accepted.
 use Prim.Native.Nat.{_+_, _-_, ℕ}
 use Prim.Native.String.{String}
-use lib.Dec.{eqb, leb}
+use lib.Dec.{eqb}
 use lib.IntN.{_+ℤ_, ℤ}
 use lib.ListN.{length, replicate, set}
 use mathlib.Core.Bool.{Bool, _&&_, _||_, cond, false, not, true}
@@ -14,7 +14,7 @@ use Rattle.lent.specs.Ring.{Lent, driveFields, driveMoves, driveNumber, soundNu
 use Rattle.lent.specs.Table.{LentTable, askFields, askNumber, tableSoundNumber}
 use Rattle.lent.specs.Tree.{LentTree, readEngagers, readNumber, readRoot, treeSoundNumber, treeStartFields, treeStartNumber, treeStepFields, treeStepNumber, writeBuffer, writeLength, writeNumber}
 use Rattle.log_rules.specs.Output.{outputOf}
-use Rattle.refusal.specs.Table.{codeOf, numberOf, sendLimit}
+use Rattle.refusal.specs.Table.{codeOf, numberOf}
 use Rattle.refusal.specs.declared.Refusal.{Refusal}
 use Rattle.ring_rules.specs.Driver.{driveOf, reasonNumber}
 use Rattle.ring_rules.specs.declared.Reason.{Reason}
@@ -23,7 +23,7 @@ use Rattle.runs.specs.Runs.{Request, acceptedOf, runOf}
 use Rattle.signed.specs.Integers.{isPositive, isSame}
 use Rattle.table_rules.specs.Answers.{Ask, Start, Step, verdictOn}
 use Rattle.table_rules.specs.Soundness.{slotTest}
-use Rattle.table_rules.specs.Table.{Table, fixed, nodesOf, sends, slotAt}
+use Rattle.table_rules.specs.Table.{Table, fixed, nodesOf, slotAt}
 use Rattle.tree_rules.specs.Termination.{acksTotal, engagedOthers}
 use Rattle.tree_text.specs.Read.{readOf}
 use Rattle.tree_text.specs.Text.{textOf}
@@ -60,9 +60,9 @@ pub data RingTest : Type 0 where
 pub data TreeTest : Type 0 where
   Range Engagers Chains Balance Resting Pairs Limit Announced : TreeTest
 
--- of a table: each started update is sound; it is so with the one N; the sends together
+-- of a table: each started update is sound; it is so with the one N
 pub data TableTest : Type 0 where
-  Each OneN Limit : TableTest
+  Each OneN : TableTest
 
 -- Safra's four
 pub data SafraTest : Type 0 where
@@ -236,13 +236,11 @@ tableTests t =
     eqb (length (t .slots)) 8
     ∷ allTo 8 (λ u. slotTest (nodesOf (slotAt t u)) (slotAt t u))
     ∷ allTo 8 (λ u. slotTest (fixed t) (slotAt t u))
-    ∷ leb (sends t) sendLimit
     ∷ []
 
 abbrev pub tablePlace : TableTest → ℕ
 tablePlace Each = 1
 tablePlace OneN = 2
-tablePlace Limit = 3
 
 abbrev pub tablePlaces : List TableTest → List ℕ
 tablePlaces [] = []

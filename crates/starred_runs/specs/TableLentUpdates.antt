@@ -48,6 +48,10 @@ afresh = lent 3 (three 1 0 1) (3 ∷ replicate 11 0) (three 0 0 0) (three 0 0 0)
 abbrev pub keeps : LentTable → Ask → ℕ → Case
 keeps m a k = lent-table m a k m
 
+-- its sends are spent, all of them of node 0 and on their way to node 1
+abbrev pub spent : Lent
+spent = lent 3 (three 1 0 0) (replicate 12 0) (three 1000000 0 0) (three 0 0 0) (three 0 1000000 0) 0 (0 ⊖ 0) 1 0
+
 unfoldable pub starts : List Case
 starts =
     lent-table (columns first unstarted) (Start 7 3 (3 ∷ 2 ∷ 1 ∷ [])) 0 (columns first afresh)
@@ -55,6 +59,7 @@ starts =
     -- afresh, closed or open
     ∷ lent-table handed (Start 0 3 (3 ∷ 2 ∷ 1 ∷ [])) 0 (columns afresh last)
     ∷ lent-table handed (Start 7 3 (3 ∷ 2 ∷ 1 ∷ [])) 0 (columns first afresh)
+    ∷ lent-table (columns spent spent) (Start 0 3 (3 ∷ 2 ∷ 1 ∷ [])) 0 (columns afresh spent)
     ∷ keeps handed (Start 8 3 (3 ∷ 2 ∷ 1 ∷ [])) 13
     -- 263 is 7 in its lowest byte
     ∷ keeps handed (Start 263 3 (3 ∷ 2 ∷ 1 ∷ [])) 13
@@ -88,6 +93,10 @@ steps =
     ∷ lent-table handed (stepAsk 7 1 0 0) 0
     (columns first (lent 3 (three 1 0 0) (3 ∷ replicate 11 0) (three 6 6 7) (three 3 4 2) (three 3 1 6) 2 (0 ⊖ 0) 1 0))
     ∷ keeps handed (stepAsk 7 1 1 1) 8
+    -- 9 of update 0, beside update 7 that sends
+    ∷ keeps (columns spent last) (stepAsk 0 1 0 2) 9
+    ∷ lent-table (columns spent last) (stepAsk 7 1 0 2) 0
+    (columns spent (lent 3 (three 1 0 0) (3 ∷ replicate 11 0) (three 6 6 7) (three 3 4 2) (three 2 1 7) 2 (0 ⊖ 0) 1 0))
     ∷ []
 
 -- sound tables; a ring that is not sound, two numbers of nodes, and a byte that is no truth, at either place

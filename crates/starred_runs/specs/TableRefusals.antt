@@ -46,7 +46,7 @@ treeUnsound = trees.handed (trees.closed ∷ trees.passive 0 ∷ trees.active 3 
 abbrev pub treeSpent : treeState.State
 treeSpent = trees.handed (trees.sends 1000000 ∷ [])
 
--- updates 0 and 7 of three nodes; with two numbers of nodes; all sends spent, by neither of the two alone
+-- updates 0 and 7 of three nodes; with two numbers of nodes; all sends of update 0 spent, and one of update 7
 abbrev pub tableStarted : Table
 tableStarted = two (rings.handed []) (rings.handed [])
 
@@ -55,8 +55,7 @@ tableUnsound = two (rings.handed []) (rings.handed (rings.nodes 2 ∷ []))
 
 abbrev pub tableSpent : Table
 tableSpent =
-    two (rings.handed (rings.active 0 ∷ rings.sent 0 999999 ∷ rings.received 1 999999 ∷ []))
-    (rings.handed (rings.active 0 ∷ rings.sent 0 1 ∷ rings.received 1 1 ∷ []))
+    two ringSpent (rings.handed (rings.active 0 ∷ rings.sent 0 1 ∷ rings.received 1 1 ∷ []))
 
 unfoldable pub order : List Case
 order =
@@ -106,12 +105,14 @@ order =
     ∷ table-ask tableSpent (Step 8 (request 7 huge huge)) 13
     ∷ table-ask tableSpent (Step 3 (request 7 huge huge)) 13
     ∷ table-ask tableSpent (Step 3 (ring.send 0 1)) 13
-    -- 8 over 9 where the two together have spent the sends
-    ∷ table-ask tableSpent (Step 7 (ring.send 1 0)) 8
-    ∷ table-ask tableSpent (Step 7 (ring.send 0 1)) 9
-    ∷ table-ask tableSpent (Step 7 (ring.send 1 1)) 8
-    ∷ table-ask tableSpent (Step 7 (ring.send 0 0)) 9
+    -- 8 over 9 of the update that has spent its sends; beside it the other sends, and a fresh start is accepted
+    ∷ table-ask tableSpent (Step 0 (ring.send 1 0)) 8
     ∷ table-ask tableSpent (Step 0 (ring.send 0 1)) 9
+    ∷ table-ask tableSpent (Step 0 (ring.send 1 1)) 8
+    ∷ table-ask tableSpent (Step 0 (ring.send 0 0)) 9
+    ∷ table-ask tableSpent (Step 7 (ring.send 0 1)) 0
+    ∷ table-ask tableSpent (Step 7 (ring.send 0 0)) 0
+    ∷ table-ask tableSpent (Start 0 3 (1 ∷ 0 ∷ 0 ∷ [])) 0
     -- 3 over 4, 4 over "driver, 11, move limit above 1,000, checked after 4", and 3 over 11
     ∷ drives ringUnsound 1000 3 0
     ∷ drives ringUnsound 1001 3 0

@@ -1,6 +1,6 @@
-// Change request Q-1 by calls: a table of two updates with 999,999 sends between them. One more is accepted, the next of either is 9, and a
-// fresh start gives sends back. Each line is the number of an answer, 0 where the request is accepted, or 1 where the table is sound and 0
-// where it is not.
+// Change requests Q-1 and Q-5 by calls: a table of two updates with 999,999 sends each. One more of the first is accepted and the next is 9, beside
+// the second that still sends; a fresh start of the first sends again. Each line is the number of an answer, 0 where the request is accepted, or 1
+// where the table is sound and 0 where it is not.
 use libc::STDOUT_FILENO;
 use table::Table;
 use table::Tabled;
@@ -54,28 +54,30 @@ fn unknown_updates(t: Table) {
     sound(e);
 }
 
-// The last send, 9 for the next of either update, to oneself too; takes still pass, of 1,000 messages at once, and not of 1,001.
-fn limit_together(t: Table) -> Table {
-    let a = told(t.step(1, 1, 0, 1));
+// The last send of update 0, and 9 for its next, to oneself too; beside it update 1 still sends, to its own limit. Takes still pass, of 1,000
+// messages at once, and not of 1,001, and give no send back.
+fn limit_of_each(t: Table) -> Table {
+    let a = told(t.step(0, 1, 0, 1));
     let b = told(a.step(0, 1, 0, 1));
-    let c = told(b.step(1, 1, 0, 1));
-    let d = told(c.step(1, 1, 0, 0));
-    let e = told(d.step(0, 2, 1, 1001));
-    let f = told(e.step(0, 2, 1, 1000));
-    told(f.step(0, 1, 1, 0))
+    let c = told(b.step(0, 1, 0, 0));
+    let d = told(c.step(1, 1, 0, 1));
+    let e = told(d.step(1, 1, 0, 1));
+    let f = told(e.step(0, 2, 1, 1001));
+    let g = told(f.step(0, 2, 1, 1000));
+    told(g.step(0, 1, 1, 0))
 }
 
-// A fresh start of update 0 gives its sends back; a refused one does not.
+// A fresh start of update 0 sends again, and update 1 does not; a refused start gives nothing.
 fn started_afresh(t: Table) {
     let a = told(t.start(0, 3, &[1, 1, 1]));
-    let b = told(a.step(1, 1, 0, 1));
+    let b = told(a.step(0, 1, 0, 1));
     let c = told(b.start(0, 2, &[1, 1]));
-    let d = told(c.step(1, 1, 0, 1));
-    let e = told(d.step(0, 1, 0, 1));
+    let d = told(c.step(0, 1, 0, 1));
+    let e = told(d.step(1, 1, 0, 1));
     sound(e);
 }
 
-// One send above the limit: 3, before 13 and 1.
+// One update one send above its limit: 3, before 13 and 1.
 fn unsound(t: Table) {
     sound(t);
     let a = told(t.step(0, 2, 1, 1));
@@ -86,10 +88,11 @@ fn unsound(t: Table) {
 fn main() {
     let first = two_started();
     unknown_updates(first);
-    let busy = with_sends(with_sends(first, 0, 600000), 1, 399999);
-    let spent = limit_together(busy);
+    let busy = with_sends(with_sends(first, 0, 999999), 1, 999999);
+    sound(busy);
+    let spent = limit_of_each(busy);
     started_afresh(spent);
-    unsound(with_sends(busy, 1, 400001));
+    unsound(with_sends(busy, 1, 1000001));
     // nothing is asked of a place that is not started
     sound(with_sends(first, 7, 4000000000));
 }

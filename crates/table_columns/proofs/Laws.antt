@@ -17,7 +17,7 @@ use Rattle.table.specs.declared.Table.{Table}
 use Rattle.table_columns.specs.Columns.{Holds, columnsOf}
 use Rattle.table_rules.specs.Soundness.{SoundTable}
 use Rattle.table_rules.specs.Table as rules
-use Rattle.table_rules.specs.Table.{emptyTable, NotStarted, Slot, sends, slotOf}
+use Rattle.table_rules.specs.Table.{emptyTable, NotStarted, Slot, slotOf}
 use Rattle.table_start.proofs.Laws.{stored-at, stored-eight, stored-other}
 use Rattle.table_start.specs.Fixed.{storeAll}
 use Rattle.table_steps.proofs.Memory.{table-at, table-places}
@@ -118,10 +118,9 @@ empty-places t e = sym (length-map (t .rings) slotBy) ∙ ap (λ (x : rules.Tabl
 
 -- ---- a sound table's columns, lent
 
-pub lent-by : (m : Memory) (t : Table) → Holds m t → SoundTable (table t) → (k : ℕ) → k ≡ sends (table t) → Lent m k
-lent-by m t h ok k e =
-    record { eight = h .eight; sound = subst SoundTable (sym (h .same)) ok; counted = e ∙ ap sends (sym (h .same)) }
+pub lent-by : (m : Memory) (t : Table) → Holds m t → SoundTable (table t) → Lent m
+lent-by m t h ok = record { eight = h .eight; sound = subst SoundTable (sym (h .same)) ok }
 
 -- and gathered again
-pub sound-by : (m : Memory) (t : Table) → Holds m t → (k : ℕ) → Lent m k → SoundTable (table t)
-sound-by m t h k l = subst SoundTable (h .same) (l .sound)
+pub sound-by : (m : Memory) (t : Table) → Holds m t → Lent m → SoundTable (table t)
+sound-by m t h l = subst SoundTable (h .same) (l .sound)

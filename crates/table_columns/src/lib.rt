@@ -7,20 +7,8 @@ use table::Table;
 ghost use mathlib.Core.Path.{_≡_};
 ghost use Prim.Native.Nat.{_<_};
 ghost use Rattle.ring.specs.View.{state};
-ghost use Rattle.table.specs.View.{table};
-ghost use Rattle.table_rules.specs.Soundness.{SoundTable};
-ghost use Rattle.table_rules.specs.Table.{sends};
 ghost use Rattle.table_steps.specs.Memory.{memory, stateAt, Eight};
 ghost use Rattle.table_columns.specs.Columns.{Holds};
-
-// The sends of a sound table, which a program keeps beside its columns.
-pub fn count_sends(t: Table) -> u64
-    requires { ⌜ SoundTable (table t) ⌝ }
-    ensures { λ r. ⌜ r ≡ sends (table t) ⌝ }
-{
-    let rings = t.rings;
-    table::all_sends(rings)
-}
 
 // Every place of the table, stored in the columns.
 pub fn scatter(

@@ -3,7 +3,7 @@ use Prim.Native.Nat.{_<_, _≤_, ℕ}
 use borrow.Author.Tests.{eq-eqb, eqb-false, eqb-true, le-leb, le-ltb, leb-false, leb-true, lt-leb, lt-ltb, ltb-false, ltb-true, ne-eqb, not-false, not-true}
 use lib.Dec.{eqb, leb, ltb}
 use lib.ListN.{List·getD-eq-default}
-use mathlib.Core.Bool.{Bool, _&&_, false, not, true}
+use mathlib.Core.Bool.{Bool, _&&_, and-false, false, not, true}
 use mathlib.Core.List.{List}
 use mathlib.Core.Logic.{_↔_, _≢_, _⊎_, inl, inr, ⊎-elim}
 use mathlib.Core.Path.{_∙_, _≡_, ap, refl, sym}
@@ -12,15 +12,16 @@ use Rattle.laws.proofs.Tests.{both, both-true, false-true, split}
 use Rattle.refusal.proofs.Table.{accepts, none-holds}
 use Rattle.refusal.specs.Table.{NoneHolds, also, codeOf, firstOf, stepRows}
 use Rattle.refusal.specs.declared.Verdict.the-variants.{Accepted}
-use Rattle.ring_rules.specs.Answers.{outside, unknown}
+use Rattle.ring_rules.specs.Answers.{outside, sendsSpent, unknown, verdictOf}
 use Rattle.ring_rules.specs.Rules.{guard, kindOf}
+use Rattle.ring_rules.specs.Soundness.{soundTest}
 use Rattle.ring_rules.specs.Start.{firstState, flagsTest, startTable, startVerdict}
 use Rattle.runs.specs.Runs.{Request}
 use Rattle.table_rules.proofs.Keeps.{after-sound, place, taken}
-use Rattle.table_rules.proofs.Limit.{limit-rows, startCode}
+use Rattle.table_rules.proofs.Limit.{ring-verdict, startCode}
 use Rattle.table_rules.proofs.Slots.{put-same}
 use Rattle.table_rules.proofs.Soundness.{fixed-n, table-true, true-table}
-use Rattle.table_rules.specs.Answers.{Ask, Start, Step, after, allSpent, otherNodes, rowsOf, verdictOn}
+use Rattle.table_rules.specs.Answers.{Ask, Start, Step, after, otherNodes, rowsOf, verdictOn}
 use Rattle.table_rules.specs.Soundness.{SoundTable, soundTableTest}
 use Rattle.table_rules.specs.Table.{NotStarted, Slot, Started, Table, fixed, slotAt}
 
@@ -53,13 +54,14 @@ two-met false false true d e = absurd (omega arith)
 two-met false false false true e = (refl, refl, refl, refl)
 two-met false false false false e = absurd (omega arith)
 
-no-thirteen : (c u o g p : Bool) → codeOf (firstOf (stepRows true c u o g p)) ≡ 13 → ⊥
-no-thirteen true u o g p e = omega arith
-no-thirteen false true o g p e = omega arith
-no-thirteen false false true g p e = omega arith
-no-thirteen false false false false p e = omega arith
-no-thirteen false false false true true e = omega arith
-no-thirteen false false false true false e = omega arith
+no-thirteen : (s c u o g p : Bool) → codeOf (firstOf (stepRows s c u o g p)) ≡ 13 → ⊥
+no-thirteen false c u o g p e = omega arith
+no-thirteen true true u o g p e = omega arith
+no-thirteen true false true o g p e = omega arith
+no-thirteen true false false true g p e = omega arith
+no-thirteen true false false false false p e = omega arith
+no-thirteen true false false false true true e = omega arith
+no-thirteen true false false false true false e = omega arith
 
 pub unsound-three : (t : Table) → (SoundTable t → ⊥) → (a : Ask) → codeOf (verdictOn t a) ≡ 3
 unfolding verdictOn
@@ -92,10 +94,6 @@ not-in-range n e = go (split (ltb 0 n)) (split (leb n 96))
 out-of-range : (n : ℕ) → (n ≡ 0) ⊎ (96 < n) → not (ltb 0 n && leb n 96) ≡ true
 out-of-range n (inl e) = rw e
 out-of-range n (inr h) = rw (lt-leb n 96 h, and-false (ltb 0 n))
-  where
-    and-false : (b : Bool) → (b && false) ≡ false
-    and-false true = refl
-    and-false false = refl
 
 module _ (t : Table) (ok : SoundTable t) where
   pub unknown-start : (u n : ℕ) (flags : List ℕ) → (codeOf (verdictOn t (Start u n flags)) ≡ 13) ↔ (7 < u)
@@ -111,16 +109,16 @@ module _ (t : Table) (ok : SoundTable t) where
   past u h = let l = ok .places in List·getD-eq-default (t .slots) NotStarted {n = u} (omega arith)
 
   pub unknown-step : (u : ℕ) (x : Request) → (codeOf (verdictOn t (Step u x)) ≡ 13) ↔ (slotAt t u ≡ NotStarted)
-  unfolding verdictOn
+  unfolding verdictOn verdictOf
   unknown-step u x = (λ e. go (slotAt t u) refl e, λ at. rw (true-table t ok, at))
     where
-      go : (s : Slot) → slotAt t u ≡ s → codeOf (firstOf (rowsOf t (Step u x))) ≡ 13 → slotAt t u ≡ NotStarted
+      go : (s : Slot) → slotAt t u ≡ s → codeOf (verdictOn t (Step u x)) ≡ 13 → slotAt t u ≡ NotStarted
       go NotStarted at e = at
       go (Started r) at e =
           let k = kindOf (x .kind) in
           absurd
-          (no-thirteen (r .closed) (unknown k) (outside r k (x .i) (x .j)) (guard r k (x .i) (x .j)) (allSpent t k)
-          (sym (ap codeOf (limit-rows t ok u r at k (x .i) (x .j))) ∙ e))
+          (no-thirteen (soundTest r) (r .closed) (unknown k) (outside r k (x .i) (x .j)) (guard r k (x .i) (x .j)) (sendsSpent r k)
+          (sym (ap codeOf (ring-verdict t ok u r at x)) ∙ e))
 
   pub start-accepted :
       (u n : ℕ) (flags : List ℕ)

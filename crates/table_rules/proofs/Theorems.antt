@@ -1,5 +1,5 @@
 -- The statements of specs/Theorems.antt, proved. Assumes nothing.
-use Prim.Native.Nat.{_<_}
+use Prim.Native.Nat.{_<_, ℕ}
 use mathlib.Core.List.{List, [], _∷_}
 use mathlib.Core.Path.{_∙_, _≡_, ap, refl, subst, sym}
 use native.Mathlib.Omega.{arith}
@@ -10,16 +10,16 @@ use Rattle.refusal.specs.declared.Verdict.the-variants.{Accepted, Refused}
 use Rattle.ring_rules.proofs.Start.{first-open, fits}
 use Rattle.ring_rules.specs.Start.{firstState}
 use Rattle.runs.specs.Runs.{acceptedOf, runOf}
-use Rattle.table_rules.proofs.Alone.{alone, not-disturbed, not-disturbed-until}
-use Rattle.table_rules.proofs.Keeps.{after-sends, after-sound, next-fixed, next-sound}
-use Rattle.table_rules.proofs.Limit.{as-ring, limit-decides, limit-only, limit-rows}
+use Rattle.table_rules.proofs.Alone.{alone, not-disturbed, started-undisturbed}
+use Rattle.table_rules.proofs.Keeps.{after-sends, after-sound, next-fixed, next-other, next-sound}
+use Rattle.table_rules.proofs.Limit.{limit-decides, limit-only, ring-step}
 use Rattle.table_rules.proofs.Numbers.{node-count, none-fixed, past, start-accepted, start-fixed, start-flags, unknown-start, unknown-step, unsound-three}
 use Rattle.table_rules.proofs.Soundness.{empty-fixed, empty-sound, fixed-n, table-true, true-table}
 use Rattle.table_rules.specs.Answers.{Ask, Start, Step, after, answerOn, nextTable, rowsOf, verdictOn}
 use Rattle.table_rules.specs.Runs.{firstNodes, table}
 use Rattle.table_rules.specs.Soundness.{SoundTable}
-use Rattle.table_rules.specs.Table.{Table, emptyTable, fixed, sends}
-use Rattle.table_rules.specs.Theorems.{Isolation, LimitTogether, NonInterference, SendsChange, TableAnswered, TableKept, TableNumbers, TableTested}
+use Rattle.table_rules.specs.Table.{Table, emptyTable, fixed, sendsOf, slotAt}
+use Rattle.table_rules.specs.Theorems.{Isolation, LimitOfEach, NonInterference, SendsChange, StepIsRings, TableAnswered, TableKept, TableNumbers, TableTested}
 
 pub table-tested : TableTested
 table-tested = record { holds = table-true; tested = true-table }
@@ -74,8 +74,11 @@ table-kept =
       fixed-first = run-first emptyTable empty-sound empty-fixed;
     }
 
-pub limit-together : LimitTogether
-limit-together = record { rows = limit-rows; only = limit-only; decides = limit-decides }
+pub step-is-rings : StepIsRings
+step-is-rings = record { answer = ring-step }
+
+pub limit-of-each : LimitOfEach
+limit-of-each = record { only = limit-only; decides = limit-decides }
 
 -- the table after an accepted request
 pub accepted-table : (t : Table) (a : Ask) → verdictOn t a ≡ Accepted → answerOn t a .table ≡ after t a
@@ -91,18 +94,22 @@ table-numbers =
       node-count = node-count;
       start-flags = start-flags;
       unsound = unsound-three;
-      as-ring = as-ring;
       fixed-by-started = fixed-n;
       fixed-by-start = λ t u n flags e. ap fixed (accepted-table t (Start u n flags) e) ∙ start-fixed t u n flags e;
       none-fixed = none-fixed;
     }
 
+abbrev sendsAt : ℕ → Table → ℕ
+sendsAt v t = sendsOf (slotAt t v)
+
 pub sends-change : SendsChange
+unfolding answerOn
 sends-change =
     record {
-      step = λ t u x e. omega (arith, ap sends (accepted-table t (Step u x) e), after-sends t (Step u x) e);
-      start = λ t u n flags e. omega (arith, ap sends (accepted-table t (Start u n flags) e), after-sends t (Start u n flags) e);
-      refused = λ t a x e. ap sends (table-answered .same t a x e);
+      step = λ t u x e. ap (sendsAt u) (accepted-table t (Step u x) e) ∙ after-sends t (Step u x) e;
+      start = λ t u n flags e. ap (sendsAt u) (accepted-table t (Start u n flags) e) ∙ after-sends t (Start u n flags) e;
+      others = λ t a v ne. ap sendsOf (next-other t a v ne);
+      refused = λ t a x e v. ap (sendsAt v) (table-answered .same t a x e);
     }
 
 pub isolation : Isolation
@@ -110,4 +117,4 @@ isolation =
     record { alone = λ t ok h u ls. let w = alone u (fixed t) ls t ok refl h in record { slot = w .0; answers = w .1 } }
 
 pub non-interference : NonInterference
-non-interference = record { same = not-disturbed; until = not-disturbed-until }
+non-interference = record { same = not-disturbed; started = started-undisturbed }

@@ -1,9 +1,9 @@
 -- Q-1: runs of a table, a list of requests of any kind, to any updates and with any numbers; refused ones stay in it.
 use Prim.Native.Nat.{ℕ}
 use lib.Dec.{eqb, ltb}
-use mathlib.Core.Bool.{Bool, _&&_, cond, not, true}
+use mathlib.Core.Bool.{cond, not}
 use mathlib.Core.List.{List, [], _∷_}
-use Rattle.refusal.specs.Table.{_⟶_, codeOf, firstOf, settle}
+use Rattle.refusal.specs.Table.{_⟶_, firstOf, settle}
 use Rattle.refusal.specs.declared.Refusal.the-variants.{NodeCount, UnknownUpdate}
 use Rattle.refusal.specs.declared.Verdict.{Verdict}
 use Rattle.ring_rules.specs.Rules.{kindOf}
@@ -32,23 +32,6 @@ naming u (a ∷ ls) = cond (eqb (names a) u) (a ∷ naming u ls) (naming u ls)
 unfoldable pub answersOf : ℕ → Table → List Ask → List Verdict
 answersOf u t [] = []
 answersOf u t (a ∷ ls) = cond (eqb (names a) u) (verdictOn t a ∷ answersOf u (nextTable t a) ls) (answersOf u (nextTable t a) ls)
-
-abbrev pub isNine : Verdict → Bool
-isNine v = eqb (codeOf v) 9
-
-abbrev pub noNine : List Verdict → Bool
-noNine [] = true
-noNine (v ∷ vs) = not (isNine v) && noNine vs
-
--- the requests that name u, less those that the table refused with 9; and the answers to these
-unfoldable pub heard : ℕ → Table → List Ask → List Ask
-heard u t [] = []
-heard u t (a ∷ ls) = cond (eqb (names a) u && not (isNine (verdictOn t a))) (a ∷ heard u (nextTable t a) ls) (heard u (nextTable t a) ls)
-
-unfoldable pub told : ℕ → Table → List Ask → List Verdict
-told u t [] = []
-told u t (a ∷ ls) =
-    cond (eqb (names a) u && not (isNine (verdictOn t a))) (verdictOn t a ∷ told u (nextTable t a) ls) (told u (nextTable t a) ls)
 
 -- ---- an update by itself, where n is fixed: no table stands behind it
 

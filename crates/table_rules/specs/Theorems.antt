@@ -1,23 +1,23 @@
 -- What is proved of the table; the proofs are in proofs/, put together in proofs/Theorems.antt.
 use Prim.Native.Nat.{_+_, _<_, _≤_, ℕ}
-use lib.ListN.{take}
 use mathlib.Core.Bool.{false, true}
 use mathlib.Core.List.{List}
 use mathlib.Core.Logic.{_↔_, _≢_, _⊎_}
 use mathlib.Core.Path.{_≡_}
-use Rattle.refusal.specs.Table.{FirstIs, NoneHolds, Row, codeOf, firstOf, sendLimit, stepRows}
+use Rattle.laws.specs.Sums.{total}
+use Rattle.refusal.specs.Table.{FirstIs, NoneHolds, Row, codeOf, sendLimit}
 use Rattle.refusal.specs.declared.Refusal.{Refusal}
 use Rattle.refusal.specs.declared.Verdict.the-variants.{Accepted, Refused}
-use Rattle.ring_rules.specs.Answers.{outside, unknown, verdictOf}
-use Rattle.ring_rules.specs.Rules.{Kind, Send, guard, kindOf}
+use Rattle.ring_rules.specs.Answers.{stepOf}
+use Rattle.ring_rules.specs.Rules.{Announce, Idle, Kind, Pass, Probe, Send, Take, Unknown, kindOf}
 use Rattle.ring_rules.specs.Start.{flagsTest, startVerdict}
 use Rattle.ring_rules.specs.State.{State}
 use Rattle.ring_rules.specs.Theorems.{Sending}
 use Rattle.runs.specs.Runs.{Request, acceptedOf, runOf}
-use Rattle.table_rules.specs.Answers.{Ask, Start, Step, after, allSpent, answerOn, isSend, rowsOf, updateRows, verdictOn}
-use Rattle.table_rules.specs.Runs.{aloneAnswers, aloneRun, answersOf, firstNodes, heard, naming, noNine, table, told}
+use Rattle.table_rules.specs.Answers.{Ask, Start, Step, after, answerOn, names, rowsOf, verdictOn}
+use Rattle.table_rules.specs.Runs.{aloneAnswers, aloneRun, answersOf, firstNodes, naming, table}
 use Rattle.table_rules.specs.Soundness.{SoundTable, soundTableTest}
-use Rattle.table_rules.specs.Table.{NotStarted, Started, Table, emptyTable, fixed, sends, sendsOf, slotAt}
+use Rattle.table_rules.specs.Table.{NotStarted, Started, Table, emptyTable, fixed, put, sendsOf, slotAt}
 
 -- The facts of soundness and the test that code computes agree.
 pub record TableTested : Type 0 where
@@ -60,61 +60,77 @@ pub record TableNumbers : Type 0 where
       → (codeOf (verdictOn t (Start u n flags)) ≡ 2)
       ↔ ((u < 8) × (0 < n) × (n ≤ 96) × ((fixed t ≡ 0) ⊎ (n ≡ fixed t)) × (flagsTest n flags ≡ false))
   pub unsound : (t : Table) → (SoundTable t → ⊥) → (a : Ask) → codeOf (verdictOn t a) ≡ 3
-  -- every step but a send is answered as the ring that stands there answers it; of a take see `TakesAnswered`
-  pub as-ring :
-      (t : Table) → SoundTable t → (u : ℕ) (r : State) → slotAt t u ≡ Started r → (x : Request) → kindOf (x .kind) ≢ Send
-      → verdictOn t (Step u x) ≡ verdictOf r (kindOf (x .kind)) (x .i) (x .j)
   -- the number that is fixed is that of every started update; a start fixes its own; nothing is started where none is fixed
   pub fixed-by-started : (t : Table) → SoundTable t → (u : ℕ) (r : State) → slotAt t u ≡ Started r → fixed t ≡ r .n
   pub fixed-by-start : (t : Table) (u n : ℕ) (flags : List ℕ) → verdictOn t (Start u n flags) ≡ Accepted → fixed (answerOn t (Start u n flags) .table) ≡ n
   pub none-fixed : (t : Table) → SoundTable t → fixed t ≡ 0 → (u : ℕ) → slotAt t u ≡ NotStarted
 
--- In a sound table a step of a started update meets the ring's own rows 4, 5, 6 and 8, and then 9 judged on the sends of the present eight.
-pub record LimitTogether : Type 0 where
-  pub rows :
-      (t : Table) → SoundTable t → (u : ℕ) (r : State) → slotAt t u ≡ Started r → (k : Kind) (i j : ℕ)
-      → firstOf (updateRows t u k i j)
-      ≡ firstOf (stepRows true (r .closed) (unknown k) (outside r k i j) (guard r k i j) (allSpent t k))
-  -- what meets 9 is a send of a started update, and exactly so many are made
+-- Q-5: in a sound table a step of a started update is the ring's own step on what stands there, of every kind and with all numbers; a refused
+-- one puts there what stood there.
+pub record StepIsRings : Type 0 where
+  pub answer :
+      (t : Table) → SoundTable t → (u : ℕ) (r : State) → slotAt t u ≡ Started r → (x : Request)
+      → answerOn t (Step u x)
+      ≡ record { verdict = stepOf r (x .kind) (x .i) (x .j) .verdict; table = put t u (Started (stepOf r (x .kind) (x .i) (x .j) .state)) }
+
+-- 1 for a send, else 0
+abbrev pub isSend : Kind → ℕ
+isSend Send = 1
+isSend Take = 0
+isSend Idle = 0
+isSend Probe = 0
+isSend Pass = 0
+isSend Announce = 0
+isSend Unknown = 0
+
+-- Q-5: each update has a count of its own and a limit of its own, whatever the others have sent.
+pub record LimitOfEach : Type 0 where
+  -- what meets 9 is a send of a started update that has made exactly so many itself
   pub only :
       (t : Table) → SoundTable t → (a : Ask) → codeOf (verdictOn t a) ≡ 9
-      → (u : ℕ) × (x : Request) × (r : State) × (a ≡ Step u x) × (kindOf (x .kind) ≡ Send) × (slotAt t u ≡ Started r) × (sends t ≡ sendLimit)
-  -- a send that meets no row above is accepted exactly if fewer are made, and meets 9 exactly if so many are
+      → (u : ℕ) × (x : Request) × (r : State) × (a ≡ Step u x) × (kindOf (x .kind) ≡ Send) × (slotAt t u ≡ Started r)
+      × (total (r .sent) (r .n) ≡ sendLimit)
+  -- a send that meets no row above is accepted exactly if its update has made fewer, and meets 9 exactly if it has made so many
   pub decides :
       (t : Table) → SoundTable t → (u : ℕ) (r : State) → slotAt t u ≡ Started r → r .closed ≡ false → (x : Request) → kindOf (x .kind) ≡ Send
       → Sending r (x .i) (x .j)
-      → ((codeOf (verdictOn t (Step u x)) ≡ 0) ↔ (sends t < sendLimit)) × ((codeOf (verdictOn t (Step u x)) ≡ 9) ↔ (sends t ≡ sendLimit))
+      → ((codeOf (verdictOn t (Step u x)) ≡ 0) ↔ (total (r .sent) (r .n) < sendLimit))
+      × ((codeOf (verdictOn t (Step u x)) ≡ 9) ↔ (total (r .sent) (r .n) ≡ sendLimit))
 
--- The sends of the present eight after one request: an accepted send adds one, an accepted start gives back those of its update, and nothing
--- else changes them.
+-- The sends of each update after one request: an accepted send adds one to those of its own update, an accepted start begins with none, and
+-- nothing else changes any.
 pub record SendsChange : Type 0 where
   pub step :
       (t : Table) (u : ℕ) (x : Request) → verdictOn t (Step u x) ≡ Accepted
-      → sends (answerOn t (Step u x) .table) ≡ sends t + isSend (kindOf (x .kind))
+      → sendsOf (slotAt (answerOn t (Step u x) .table) u) ≡ sendsOf (slotAt t u) + isSend (kindOf (x .kind))
   pub start :
       (t : Table) (u n : ℕ) (flags : List ℕ) → verdictOn t (Start u n flags) ≡ Accepted
-      → sends (answerOn t (Start u n flags) .table) + sendsOf (slotAt t u) ≡ sends t
-  pub refused : (t : Table) (a : Ask) (e : Refusal) → verdictOn t a ≡ Refused e → sends (answerOn t a .table) ≡ sends t
+      → sendsOf (slotAt (answerOn t (Start u n flags) .table) u) ≡ 0
+  pub others : (t : Table) (a : Ask) (v : ℕ) → v ≢ names a → sendsOf (slotAt (answerOn t a .table) v) ≡ sendsOf (slotAt t v)
+  pub refused :
+      (t : Table) (a : Ask) (e : Refusal) → verdictOn t a ≡ Refused e → (v : ℕ) → sendsOf (slotAt (answerOn t a .table) v) ≡ sendsOf (slotAt t v)
 
--- Where n is fixed, an update goes its own way: the requests that name it, less those refused with 9, are answered and carried out as if no
--- other update were there.
+-- Where n is fixed, an update goes its own way: the requests that name it, all of them, are answered and carried out as if no other update
+-- were there.
 pub record GoesAlone (t : Table) (u : ℕ) (ls : List Ask) : Type 0 where
-  pub slot : slotAt (runOf table t ls) u ≡ aloneRun (fixed t) (slotAt t u) (heard u t ls)
-  pub answers : told u t ls ≡ aloneAnswers (fixed t) (slotAt t u) (heard u t ls)
+  pub slot : slotAt (runOf table t ls) u ≡ aloneRun (fixed t) (slotAt t u) (naming u ls)
+  pub answers : answersOf u t ls ≡ aloneAnswers (fixed t) (slotAt t u) (naming u ls)
 
 pub record Isolation : Type 0 where
   pub alone : (t : Table) → SoundTable t → 0 < fixed t → (u : ℕ) (ls : List Ask) → GoesAlone t u ls
 
--- Two sound tables with one fixed N that agree on u, and two lists whose requests naming u are the same: as long as neither run has
--- answered one of these with 9, u's answers are the same one by one and so is what stands at u; and their first k answers are, where these
--- have no 9, whatever comes later. Where no N is fixed yet it does not hold: the others' starts then decide which N is 1.
+-- the lists of requests give u the same answers one by one, refusals included, and leave the same at u
+pub record Alike (t t′ : Table) (u : ℕ) (ls ls′ : List Ask) : Type 0 where
+  pub answers : answersOf u t ls ≡ answersOf u t′ ls′
+  pub slot : slotAt (runOf table t ls) u ≡ slotAt (runOf table t′ ls′) u
+
+-- Q-5: two sound tables with one fixed N that agree on u, and any two lists whose requests naming u are the same. Where no N is fixed yet it
+-- does not hold: the others' starts then decide which N is 1 (proofs/Examples).
 pub record NonInterference : Type 0 where
   pub same :
       (t t′ : Table) → SoundTable t → SoundTable t′ → 0 < fixed t → fixed t ≡ fixed t′ → (u : ℕ) → slotAt t u ≡ slotAt t′ u
-      → (ls ls′ : List Ask) → naming u ls ≡ naming u ls′ → noNine (answersOf u t ls) ≡ true → noNine (answersOf u t′ ls′) ≡ true
-      → (answersOf u t ls ≡ answersOf u t′ ls′) × (slotAt (runOf table t ls) u ≡ slotAt (runOf table t′ ls′) u)
-  pub until :
-      (t t′ : Table) → SoundTable t → 0 < fixed t → SoundTable t′ → fixed t ≡ fixed t′ → (u : ℕ) → slotAt t u ≡ slotAt t′ u
-      → (ls ls′ : List Ask) → naming u ls ≡ naming u ls′ → (k : ℕ)
-      → noNine (take k (answersOf u t ls)) ≡ true → noNine (take k (answersOf u t′ ls′)) ≡ true
-      → take k (answersOf u t ls) ≡ take k (answersOf u t′ ls′)
+      → (ls ls′ : List Ask) → naming u ls ≡ naming u ls′ → Alike t t′ u ls ls′
+  -- where u is started, it fixes N in both
+  pub started :
+      (t t′ : Table) → SoundTable t → SoundTable t′ → (u : ℕ) (r : State) → slotAt t u ≡ Started r → slotAt t′ u ≡ Started r
+      → (ls ls′ : List Ask) → naming u ls ≡ naming u ls′ → Alike t t′ u ls ls′

@@ -1,49 +1,40 @@
 -- The statements of specs/Agreement.antt, proved. Assumes nothing.
-use Prim.Native.Nat.{_+_, _<_, _≤_, ℕ}
-use borrow.Author.Tests.{lt-leb}
+use Prim.Native.Nat.{_<_, _≤_, ℕ}
 use lib.ListN.{length}
 use mathlib.Core.Bool.{false, true}
 use mathlib.Core.List.{List, [], _∷_}
-use mathlib.Core.Logic.{_⊎_, inl, ⊎-elim}
+use mathlib.Core.Logic.{_⊎_, inl}
 use mathlib.Core.Path.{_∙_, _≡_, ap, ap₂, refl, subst, sym}
-use native.Mathlib.Decide.{decLt}
 use native.Mathlib.Omega.{arith}
-use Rattle.laws.proofs.Tests.{split}
-use Rattle.refusal.proofs.Table.{code-refused}
 use Rattle.refusal.specs.Table.{sendLimit, settle}
-use Rattle.refusal.specs.declared.Refusal.the-variants.{SendLimit}
 use Rattle.refusal.specs.declared.Verdict.{Verdict}
 use Rattle.refusal.specs.declared.Verdict.the-variants.{Accepted, Refused}
-use Rattle.ring_rules.proofs.Accepted.{conclusive-true}
 use Rattle.ring_rules.proofs.Fields.{same-n}
-use Rattle.ring_rules.proofs.Theorems.{sound-kept, start-answered}
+use Rattle.ring_rules.proofs.Theorems.{start-answered}
 use Rattle.ring_rules.specs.Answers.{answerOf}
-use Rattle.ring_rules.specs.Rules.{Announce, Idle, Kind, Pass, Probe, Send, Take, Unknown}
+use Rattle.ring_rules.specs.Rules.{Announce}
 use Rattle.ring_rules.specs.Start.{firstState, startOf}
 use Rattle.ring_rules.specs.State.{State}
-use Rattle.ring_runs.proofs.Agreed.{one-receipt, other-kind}
 use Rattle.ring_runs.proofs.Agreement as rings
-use Rattle.ring_runs.proofs.Steps.{detected-of}
-use Rattle.ring_runs.proofs.Trace.{run-n, run-sent}
-use Rattle.ring_runs.specs.Agreement.{Behaves, Reachable, Started as InitBy, nextsOf, sendsMade, shown, shownAfter as shownAfterRing}
-use Rattle.ring_runs.specs.Counts.{kind, ring, sending, sendsIn}
-use Rattle.ring_runs.specs.EWD998.{Next, Node, SendMsg, Vars, deactivate, environment, initiateProbe, passToken, recvMsg, sendMsg, system, terminationDetected}
-use Rattle.ring_runs.specs.Requests.{announce, idle, pass, probe, send, take}
-use Rattle.ring_runs.specs.View.{Action, InARow, is-deactivate, is-pass, is-probe, is-send, varsOf}
+use Rattle.ring_runs.proofs.Trace.{run-n}
+use Rattle.ring_runs.specs.Agreement.{BelowLimit, Behaves, NextAnswered as NextAnsweredRing, Reachable, Started as InitBy, at-limit as at-limit-ring, matched as matched-ring, nextsOf, sendsMade, shown, shownAfter as shownAfterRing}
+use Rattle.ring_runs.specs.Counts.{kind, ring}
+use Rattle.ring_runs.specs.EWD998.{Next, Vars, terminationDetected}
+use Rattle.ring_runs.specs.Requests.{announce, send, take}
+use Rattle.ring_runs.specs.View.{Action, InARow, varsOf}
 use Rattle.runs.proofs.Runs.{run-of}
 use Rattle.runs.specs.Runs.{Accepts, Request, acceptedOf, next, runOf}
 use Rattle.table_rules.proofs.Keeps.{next-other, next-sound}
-use Rattle.table_rules.proofs.Limit.{among}
 use Rattle.table_rules.proofs.Slots.{same-state}
-use Rattle.table_rules.proofs.Soundness.{empty-fixed, empty-sends, empty-sound}
-use Rattle.table_rules.proofs.Theorems.{accepted-table, limit-together, sends-change, table-answered, table-numbers}
-use Rattle.table_rules.specs.Answers.{Ask, Start, Step, after, allSpent, answerOn, isSend, nextTable, verdictOn}
+use Rattle.table_rules.proofs.Soundness.{empty-fixed, empty-sound}
+use Rattle.table_rules.proofs.Theorems.{accepted-table, table-answered, table-numbers}
+use Rattle.table_rules.specs.Answers.{Ask, Start, Step, after, answerOn, nextTable, verdictOn}
 use Rattle.table_rules.specs.Runs.{table}
 use Rattle.table_rules.specs.Soundness.{SoundTable}
-use Rattle.table_rules.specs.Table.{NotStarted, Slot, Started, Table, emptyTable, fixed, sends, sendsOf, slotAt}
-use Rattle.table_runs.proofs.Updates.{announce-accepts, ring-accepts, ring-next, start-begins, start-stands, table-accepts, told-of}
+use Rattle.table_rules.specs.Table.{Started, Table, emptyTable, fixed, slotAt}
+use Rattle.table_runs.proofs.Updates.{as-ring, ring-accepts, ring-next, start-begins, start-stands, table-accepts, told-of}
 use Rattle.table_runs.proofs.WholeRun.{latest}
-use Rattle.table_runs.specs.Agreement.{BelowLimit, NextAnswered, OthersAlone, RunTo, RunsAgree, StartsAgree, StepsAgree, at-limit, matched, ringAfter, shownAfter, someNode, stepsOn}
+use Rattle.table_runs.specs.Agreement.{NextAnswered, OthersAlone, RunTo, RunsAgree, StartsAgree, StepsAgree, at-limit, matched, ringAfter, shownAfter, someNode, stepsOn}
 use Rattle.table_runs.specs.Counts.{AcceptsOn, heardOf, historyOf, startedOf}
 
 -- ---- the starts
@@ -70,15 +61,6 @@ starts-agree t =
 
 -- ---- one step
 
-room-spent : (t : Table) (k : Kind) → (k ≡ Send → sends t < sendLimit) → allSpent t k ≡ false
-room-spent t Send h = lt-leb sendLimit (sends t) (h refl)
-room-spent t Take h = refl
-room-spent t Idle h = refl
-room-spent t Probe h = refl
-room-spent t Pass h = refl
-room-spent t Announce h = refl
-room-spent t Unknown h = refl
-
 module _ (t : Table) (ok : SoundTable t) (u : ℕ) (r : State) (at : slotAt t u ≡ Started r) where
   ring-shown : (x : Request) → AcceptsOn t u x → shownAfter t u r x ≡ shownAfterRing r (x .kind) (x .i) (x .j)
   unfolding answerOf
@@ -91,45 +73,28 @@ module _ (t : Table) (ok : SoundTable t) (u : ℕ) (r : State) (at : slotAt t u 
       subst (λ (s : Vars (r .n)). Action (someNode t ok u r at) (shown r) s (kind x) (x .i) (x .j)) (sym (ring-shown x a))
       (rings.steps-agree r (ok .each u r at) .accepted-is-action (x .kind) (x .i) (x .j) (ring-accepts t ok u r at x a))
 
-  module _ (running : r .closed ≡ false) where
-    action-accepted :
-        (x : Request) (s : Vars (r .n)) → Action (someNode t ok u r at) (shown r) s (kind x) (x .i) (x .j) → BelowLimit t x
-        → AcceptsOn t u x × (shownAfter t u r x ≡ s)
-    unfolding answerOf
-    action-accepted x s a room =
-        let p = rings.steps-agree r (ok .each u r at) .action-is-accepted running (x .kind) (x .i) (x .j) s a
-        (λ e. let m = among t ok u r at in let h = room e in omega arith) in
-        let b = table-accepts t ok u r at x (room-spent t (kind x) room) (p .0) in
-        (b, ring-shown x b ∙ p .1)
+  action-accepted :
+      r .closed ≡ false → (x : Request) (s : Vars (r .n)) → Action (someNode t ok u r at) (shown r) s (kind x) (x .i) (x .j) → BelowLimit r (x .kind)
+      → AcceptsOn t u x × (shownAfter t u r x ≡ s)
+  unfolding answerOf
+  action-accepted running x s a room =
+      let p = rings.steps-agree r (ok .each u r at) .action-is-accepted running (x .kind) (x .i) (x .j) s a room in
+      let b = table-accepts t ok u r at x (p .0) in
+      (b, ring-shown x b ∙ p .1)
 
-    answered : (x : Request) (s : Vars (r .n)) → Action (someNode t ok u r at) (shown r) s (kind x) (x .i) (x .j) → BelowLimit t x → NextAnswered t ok u r at s
-    answered x s a room = let p = action-accepted x s a room in matched x (p .0) (p .1)
-
-    spent-9 :
-        (i : Node (r .n)) (s : Vars (r .n)) (a : SendMsg (someNode t ok u r at) i (shown r) s) → sends t ≡ sendLimit
-        → verdictOn t (Step u (send (i .nr) (a .j .nr))) ≡ Refused SendLimit
-    spent-9 i s a full =
-        code-refused _ SendLimit
-        (limit-together .decides t ok u r at running (send (i .nr) (a .j .nr)) refl
-        (record { sender = i .below; receiver = a .j .below; active = a .active }) .1 .1 full)
-
-    open-answered : (s : Vars (r .n)) → Next (someNode t ok u r at) (shown r) s → NextAnswered t ok u r at s
-    open-answered s (system (initiateProbe a)) = answered probe s (is-probe a) (λ e. other-kind (sym e) refl)
-    open-answered s (system (passToken i ne a)) = answered (pass (i .nr)) s (is-pass i ne a) (λ e. other-kind (sym e) refl)
-    open-answered s (environment (recvMsg i a)) = answered (take (i .nr) 1) s (one-receipt i a) (λ e. other-kind (sym e) refl)
-    open-answered s (environment (deactivate i a)) = answered (idle (i .nr)) s (is-deactivate i a) (λ e. other-kind (sym e) refl)
-    open-answered s (environment (sendMsg i a)) = go (decLt (sends t) sendLimit)
-      where
-        go : Dec (sends t < sendLimit) → NextAnswered t ok u r at s
-        go (yes h) = answered (send (i .nr) (a .j .nr)) s (is-send i a) (λ e. h)
-        go (no h) = let l = ok .limit in at-limit i a (omega arith) (spent-9 i s a (omega arith))
-
+  -- the ring's answer is the table's
   next-answered : (s : Vars (r .n)) → Next (someNode t ok u r at) (shown r) s → NextAnswered t ok u r at s
-  next-answered s a =
-      let sound = ok .each u r at in
-      ⊎-elim (λ c. absurd (rings.steps-agree r sound .detected-is-last (detected-of r sound (conclusive-true r (sound .announced c))) s a))
-      (λ o. open-answered o s a)
-      (split (r .closed))
+  unfolding answerOf
+  next-answered s a = go (rings.steps-agree r (ok .each u r at) .next-is-answered s a)
+    where
+      go : NextAnsweredRing r (ok .each u r at) s → NextAnswered t ok u r at s
+      go (matched-ring k i j b e) =
+          let x : Request = record { kind = k; i = i; j = j } in
+          let c = table-accepts t ok u r at x b in
+          matched x c (ring-shown x c ∙ e)
+      go (at-limit-ring i b h e) =
+          let l = ok .each u r at .limit in
+          at-limit i b (omega arith) (as-ring t ok u r at (send (i .nr) (b .j .nr)) ∙ e)
 
   refused-same : (x : Request) → (AcceptsOn t u x → ⊥) → answerOn t (Step u x) .table ≡ t
   refused-same x ne = go (verdictOn t (Step u x)) refl
@@ -165,12 +130,12 @@ module _ (t : Table) (ok : SoundTable t) (u : ℕ) (r : State) (at : slotAt t u 
         receipts-are-take =
             λ i n s lo le x.
             let w = rings.steps-agree r (ok .each u r at) .receipts-are-take i n s lo le x in
-            let a = table-accepts t ok u r at (take (i .nr) n) refl (w .0) in
+            let a = table-accepts t ok u r at (take (i .nr) n) (w .0) in
             (a, ring-shown (take (i .nr) n) a ∙ w .1);
         announce-is-detected =
             λ running.
             let w = rings.steps-agree r (ok .each u r at) .announce-is-detected running 0 0 in
-            (λ a. w .0 (ring-accepts t ok u r at announce a), λ d. announce-accepts t ok u r at announce refl (w .1 d));
+            (λ a. w .0 (ring-accepts t ok u r at announce a), λ d. table-accepts t ok u r at announce (w .1 d));
       }
 
 pub others-alone : OthersAlone
@@ -239,54 +204,31 @@ all-first r x xs e = go (ring .verdict r x) refl e (accepted-length (next ring r
     go Accepted q f h = (q, ap tail f)
     go (Refused g) q f h = absurd (omega (arith, ap length f))
 
-sending-same : (k : Kind) → isSend k ≡ sending k
-sending-same Send = refl
-sending-same Take = refl
-sending-same Idle = refl
-sending-same Probe = refl
-sending-same Pass = refl
-sending-same Announce = refl
-sending-same Unknown = refl
-
--- steps that the ring accepts, with room for their sends, are accepted as steps of u
+-- steps that the ring accepts are accepted as steps of u
 all-accepted :
     (u : ℕ) (xs : List Request) (t : Table) → SoundTable t → (r : State) → slotAt t u ≡ Started r → acceptedOf ring r xs ≡ xs
-    → sends t + sendsIn xs ≤ sendLimit
     → (acceptedOf table t (stepsOn u xs) ≡ stepsOn u xs) × (slotAt (runOf table t (stepsOn u xs)) u ≡ Started (runOf ring r xs))
 unfolding acceptedOf runOf answerOn
-all-accepted u [] t ok r at e h = (refl, at)
-all-accepted u (x ∷ xs) t ok r at e h =
+all-accepted u [] t ok r at e = (refl, at)
+all-accepted u (x ∷ xs) t ok r at e =
     let p = all-first r x xs e in
-    let same = sending-same (kind x) in
-    let a = table-accepts t ok u r at x (room-spent t (kind x) (λ k. let z = ap sending k in omega arith)) (p .0) in
+    let a = table-accepts t ok u r at x (p .0) in
     let here : slotAt (nextTable t (Step u x)) u ≡ Started (next ring r x) =
-    ring-next t ok u r at x ∙ ap (λ (v : Verdict). Started (settle v (ring .effect r x) r)) (a ∙ sym (p .0)) in
-    let w = all-accepted u xs (nextTable t (Step u x)) (next-sound t (Step u x) ok) (next ring r x) here (p .1)
-    (omega (arith, sends-change .step t u x a)) in
+    ring-next t ok u r at x ∙ ap (λ (v : Verdict). Started (settle v (ring .effect r x) r)) (as-ring t ok u r at x) in
+    let w = all-accepted u xs (nextTable t (Step u x)) (next-sound t (Step u x) ok) (next ring r x) here (p .1) in
     (ap₂ (λ (v : Verdict) (l : List Ask). settle v (Step u x ∷ l) l) a (w .0), w .1)
 
-own-sends : (t : Table) → SoundTable t → (u : ℕ) → sendsOf (slotAt t u) ≤ sends t
-own-sends t ok u = go (slotAt t u) refl
-  where
-    go : (s : Slot) → slotAt t u ≡ s → sendsOf (slotAt t u) ≤ sends t
-    go NotStarted e = omega (arith, ap sendsOf e)
-    go (Started r) e = omega (arith, ap sendsOf e, among t ok u r e)
-
 module _ (t : Table) (ok : SoundTable t) (u : ℕ) (hu : u < 8) {N : ℕ} (h : 0 < N) (hi : N ≤ 96) (f : (fixed t ≡ 0) ⊎ (N ≡ fixed t)) where
-  reachable-run : (s : Vars N) (m : ℕ) → Reachable h s m → sends t + m ≤ sendLimit + sendsOf (slotAt t u) → RunTo t u s m
+  reachable-run : (s : Vars N) (m : ℕ) → Reachable h s m → m ≤ sendLimit → RunTo t u s m
   unfolding acceptedOf runOf answerOn
   reachable-run s m b room =
-      let own = own-sends t ok u in
-      let w = rings.runs-agree h .reachable-is-run hi s m b (omega arith) in
+      let w = rings.runs-agree h .reachable-is-run hi s m b room in
       let ask = Start u N (w .flags) in
       let a = table-numbers .start t ok u N (w .flags) .1 (hu, f, w .start) in
       let first = start-answered .first N (w .flags) (w .start) in
       let at : slotAt (nextTable t ask) u ≡ Started (startOf N (w .flags) .state) =
       ap (λ (v : Verdict). slotAt (settle v (after t ask) t) u) a ∙ start-stands t u N (w .flags) a ∙ ap Started (sym first) in
-      let sent = run-sent (run-of ring (startOf N (w .flags) .state) (w .requests)) (sound-kept .start N (w .flags) (w .start) .sound) in
-      let count = ap sendsIn (w .accepted) in
-      let all = all-accepted u (w .requests) (nextTable t ask) (next-sound t ask ok) _ at (w .accepted)
-      (omega (arith, sends-change .start t u N (w .flags) a, sent, count, w .count, room)) in
+      let all = all-accepted u (w .requests) (nextTable t ask) (next-sound t ask ok) _ at (w .accepted) in
       record {
         flags = w .flags;
         requests = w .requests;
@@ -304,7 +246,5 @@ runs-agree =
       run-is-behaviour = run-behaves;
       run-is-reachable = run-reachable;
       reachable-is-run = reachable-run;
-      from-empty =
-          λ u hu h hi s m b room.
-          reachable-run emptyTable empty-sound u hu h hi (inl empty-fixed) s m b (omega (arith, empty-sends, room));
+      from-empty = λ u hu h hi. reachable-run emptyTable empty-sound u hu h hi (inl empty-fixed);
     }

@@ -2,35 +2,32 @@
 use Prim.Native.Nat.{_<_, ℕ}
 use borrow.Author.Tests.{eqb-false, eqb-true}
 use lib.Dec.{eqb}
-use mathlib.Core.Bool.{Bool, _&&_, cond, false, not, true}
-use mathlib.Core.List.{List, [], _++_, _∷_, append-nil}
+use mathlib.Core.Bool.{Bool, _&&_, and-false, cond, false, true}
+use mathlib.Core.List.{List, [], _++_, _∷_, append-assoc, append-nil}
 use mathlib.Core.Path.{_∙_, _≡_, ap, ap₂, refl, subst, sym}
-use native.Mathlib.Omega.{arith}
+use Rattle.laws.proofs.Tests.{neither}
 use Rattle.refusal.proofs.Table.{accepts, none-holds}
 use Rattle.refusal.specs.Table.{NoneHolds, also, firstOf, isAccepted, settle}
-use Rattle.refusal.specs.declared.Refusal.the-variants.{SendLimit, UnknownUpdate}
+use Rattle.refusal.specs.declared.Refusal.the-variants.{UnknownUpdate}
 use Rattle.refusal.specs.declared.Verdict.{Verdict}
 use Rattle.refusal.specs.declared.Verdict.the-variants.{Accepted, Refused}
 use Rattle.ring_rules.proofs.Start.{first-open, fits}
-use Rattle.ring_rules.specs.Answers.{verdictOf}
-use Rattle.ring_rules.specs.Rules.{Announce, Kind, Pass, Probe, kindOf}
 use Rattle.ring_rules.specs.Soundness.{Open, Sound}
 use Rattle.ring_rules.specs.Start.{firstState, startTable, startVerdict}
 use Rattle.ring_rules.specs.State.{State}
-use Rattle.ring_rules.specs.Theorems.{TokenMove, passing, probing}
-use Rattle.ring_runs.specs.Counts.{kind, ring}
+use Rattle.ring_runs.specs.Counts.{ring}
 use Rattle.ring_runs.specs.WholeRun.{announcement as announcement-ring, OneOfTwo as OneOfTwoRing, token-moves as token-moves-ring}
 use Rattle.runs.proofs.Runs.{accepted-append, run-append}
 use Rattle.runs.specs.Runs.{Accepts, Request, acceptedOf, next, runOf}
-use Rattle.table_rules.proofs.Alone.{alone-verdict, nine-leaves, no-row}
 use Rattle.table_rules.proofs.Keeps.{next-other, next-own, next-sound, taken}
+use Rattle.table_rules.proofs.Limit.{ring-verdict}
 use Rattle.table_rules.proofs.Slots.{never-started, put-other, put-same, same-state}
-use Rattle.table_rules.proofs.Soundness.{fixed-n, true-table}
-use Rattle.table_rules.specs.Answers.{Ask, Start, Step, after, allSpent, nextTable, rowsOf, slotAfter, slotRows, verdictOn}
-use Rattle.table_rules.specs.Runs.{isNine, table}
+use Rattle.table_rules.proofs.Soundness.{true-table}
+use Rattle.table_rules.specs.Answers.{Ask, Start, Step, after, nextTable, rowsOf, slotAfter, verdictOn}
+use Rattle.table_rules.specs.Runs.{table}
 use Rattle.table_rules.specs.Soundness.{SoundTable}
-use Rattle.table_rules.specs.Table.{NotStarted, Slot, Started, Table, fixed, slotAt}
-use Rattle.table_runs.specs.Counts.{AcceptsOn, Heard, History, begun, heardFrom, heardNext, heardOf, historyIn, historyNext, historyOf, nothing, ringAnswers}
+use Rattle.table_rules.specs.Table.{NotStarted, Slot, Started, Table, slotAt}
+use Rattle.table_runs.specs.Counts.{AcceptsOn, Heard, History, begun, heardFrom, heardNext, heardOf, historyIn, historyNext, historyOf, nothing, ringAnswers, startedOf, startsIn, stepsIn}
 use Rattle.table_runs.specs.WholeRun.{OneOfTwo, announcement, token-moves}
 
 -- ---- a step of a started update
@@ -44,39 +41,19 @@ settle-started Accepted r s = refl
 settle-started (Refused e) r s = refl
 
 module _ (t : Table) (ok : SoundTable t) (u : ℕ) (r : State) (at : slotAt t u ≡ Started r) where
-  some : 0 < fixed t
-  some = let h = ok .each u r at .some-node in omega (arith, fixed-n t ok u r at)
-
-  -- the table's verdict is the ring's, but for 9
-  pub as-ring : (x : Request) → isNine (verdictOn t (Step u x)) ≡ false → verdictOn t (Step u x) ≡ ring .verdict r x
-  unfolding verdictOf
-  as-ring x q =
-      alone-verdict t ok some (Step u x) q ∙ ap (λ (s : Slot). firstOf (slotRows s (kindOf (x .kind)) (x .i) (x .j))) at
+  -- the table's verdict is the ring's
+  pub as-ring : (x : Request) → verdictOn t (Step u x) ≡ ring .verdict r x
+  as-ring x = ring-verdict t ok u r at x
 
   pub ring-accepts : (x : Request) → AcceptsOn t u x → Accepts ring r x
-  ring-accepts x a = sym (as-ring x (ap isNine a)) ∙ a
+  ring-accepts x a = sym (as-ring x) ∙ a
 
-  -- and 9 is for sends alone
-  pub table-accepts : (x : Request) → allSpent t (kind x) ≡ false → Accepts ring r x → AcceptsOn t u x
-  unfolding verdictOn verdictOf
-  table-accepts x s a =
-      let e : verdictOn t (Step u x) ≡ firstOf (slotRows (slotAt t u) (kind x) (x .i) (x .j)) = rw (true-table t ok, s)
-      (no-row (slotRows (slotAt t u) (kind x) (x .i) (x .j)) SendLimit) in
-      e ∙ ap (λ (s : Slot). firstOf (slotRows s (kind x) (x .i) (x .j))) at ∙ a
-
-  move-accepts : (x : Request) → TokenMove (kind x) → Accepts ring r x → AcceptsOn t u x
-  move-accepts x m a = table-accepts x (go (kind x) m) a
-    where
-      go : (k : Kind) → TokenMove k → allSpent t k ≡ false
-      go Probe probing = refl
-      go Pass passing = refl
-
-  pub announce-accepts : (x : Request) → kind x ≡ Announce → Accepts ring r x → AcceptsOn t u x
-  announce-accepts x e a = table-accepts x (ap (allSpent t) e) a
+  pub table-accepts : (x : Request) → Accepts ring r x → AcceptsOn t u x
+  table-accepts x a = as-ring x ∙ a
 
   pub one-of-two : OneOfTwoRing r → OneOfTwo t u
-  one-of-two (token-moves-ring x a f) = token-moves x (move-accepts x (f x a) a) (λ y b. f y (ring-accepts y b))
-  one-of-two (announcement-ring f g) = announcement (λ x e. announce-accepts x e (f x e)) (λ y b. g y (ring-accepts y b))
+  one-of-two (token-moves-ring x a f) = token-moves x (table-accepts x a) (λ y b. f y (ring-accepts y b))
+  one-of-two (announcement-ring f g) = announcement (λ x e. table-accepts x (f x e)) (λ y b. g y (ring-accepts y b))
 
   -- what stands there after it
   pub ring-next : (x : Request) → slotAt (nextTable t (Step u x)) u ≡ Started (settle (verdictOn t (Step u x)) (ring .effect r x) r)
@@ -153,11 +130,11 @@ module _ (t : Table) (ok : SoundTable t) (u : ℕ) (h : History) (w : Heard) (p 
   abbrev v : Verdict
   v = verdictOn t (Step u x)
 
-  -- a step of u that is not refused with 9
-  judged : (r : State) → h .first ≡ Started r → isNine v ≡ false → Told (slotAt (nextTable t (Step u x)) u) (settle v (taking h x) h) (hearing w x v)
-  judged r e q =
+  -- a step of u, which is started
+  judged : (r : State) → h .first ≡ Started r → Told (slotAt (nextTable t (Step u x)) u) (settle v (taking h x) h) (hearing w x v)
+  judged r e =
       let f = p .some r e in
-      let b = as-ring t ok u _ (f .stands) x q in
+      let b = as-ring t ok u _ (f .stands) x in
       let m = heard-more r (w .steps) x v b in
       rw (settle-taking v h x)
       (record {
@@ -174,17 +151,14 @@ module _ (t : Table) (ok : SoundTable t) (u : ℕ) (h : History) (w : Heard) (p 
             });
       })
 
-  own-step : Told (slotAt (nextTable t (Step u x)) u) (settle v (taking h x) h) (cond (not (isNine v)) (hearing w x v) w)
-  own-step = go (h .first) refl (isNine v) refl
+  own-step : Told (slotAt (nextTable t (Step u x)) u) (settle v (taking h x) h) (hearing w x v)
+  own-step = go (h .first) refl
     where
-      go :
-          (s : Slot) → h .first ≡ s → (b : Bool) → isNine v ≡ b
-          → Told (slotAt (nextTable t (Step u x)) u) (settle v (taking h x) h) (cond (not b) (hearing w x v) w)
-      go NotStarted e b q =
+      go : (s : Slot) → h .first ≡ s → Told (slotAt (nextTable t (Step u x)) u) (settle v (taking h x) h) (hearing w x v)
+      go NotStarted e =
           let z = p .none e in
           rw (unknown-step t ok u x (z .0)) (record { none = λ _. z; some = λ r f. absurd (never-started (sym e ∙ f)) })
-      go (Started r) e true q = rw (nine-leaves v (taking h x) h q, nine-leaves v (after t (Step u x)) t q) p
-      go (Started r) e false q = judged r e q
+      go (Started r) e = judged r e
 
 -- a start of u that is accepted
 own-start : (n : ℕ) (flags : List ℕ) → startVerdict n flags ≡ Accepted → Told (Started (firstState n flags)) (begun (Started (firstState n flags))) nothing
@@ -218,12 +192,11 @@ module _ (t : Table) (ok : SoundTable t) (u : ℕ) (h : History) (w : Heard) (p 
       go :
           (b : Bool) → eqb z u ≡ b
           → Told (slotAt (nextTable t (Step z x)) u) (settle (verdictOn t (Step z x)) (cond b (taking h x) h) h)
-          (cond (b && not (isNine (verdictOn t (Step z x)))) (hearing w x (verdictOn t (Step z x))) w)
+          (cond b (hearing w x (verdictOn t (Step z x))) w)
       go true e =
           let f = eqb-true z u e in
           subst
-          (λ (y : ℕ). Told (slotAt (nextTable t (Step y x)) u) (settle (verdictOn t (Step y x)) (taking h x) h)
-          (cond (not (isNine (verdictOn t (Step y x)))) (hearing w x (verdictOn t (Step y x))) w))
+          (λ (y : ℕ). Told (slotAt (nextTable t (Step y x)) u) (settle (verdictOn t (Step y x)) (taking h x) h) (hearing w x (verdictOn t (Step y x))))
           (sym f)
           (own-step t ok u h w p x)
       go false e =
@@ -249,3 +222,44 @@ unfolding runOf acceptedOf ringAnswers
 told-of u t ok ls =
     told-run u ls t ok (begun (slotAt t u)) nothing
     (record { none = λ e. (e, refl); some = λ r e. record { sound = ok .each u r e; stands = e; answers = refl; accepted = refl } })
+
+-- ---- what is heard in further requests
+
+pub heard-append : (u : ℕ) (ls bs : List Ask) (t : Table) (w : Heard) → heardFrom u w t (ls ++ bs) ≡ heardFrom u (heardFrom u w t ls) (runOf table t ls) bs
+unfolding heardFrom runOf
+heard-append u [] bs t w = refl
+heard-append u (a ∷ ls) bs t w = heard-append u ls bs (nextTable t a) (heardNext u w a (verdictOn t a))
+
+-- a step that is accepted is no start
+no-start : (u z : ℕ) (x : Request) (acc : List Ask) (v : Verdict) → startsIn u (settle v (Step z x ∷ acc) acc) ≡ startsIn u acc
+no-start u z x acc Accepted = refl
+no-start u z x acc (Refused e) = refl
+
+-- with no start of u accepted: every step that names it
+pub heard-all : (u : ℕ) (bs : List Ask) (t : Table) (w : Heard) → startedOf u t bs ≡ false → heardFrom u w t bs .steps ≡ w .steps ++ stepsIn u bs
+unfolding heardFrom acceptedOf
+heard-all u [] t w e = sym (append-nil (w .steps))
+heard-all u (Start z n flags ∷ bs) t w e =
+    go (verdictOn t (Start z n flags)) (λ (m : Table) (f : startedOf u m bs ≡ false). heard-all u bs m w f) e
+  where
+    go :
+        (v : Verdict) → ((m : Table) → startedOf u m bs ≡ false → heardFrom u w m bs .steps ≡ w .steps ++ stepsIn u bs)
+        → startsIn u
+        (settle v (Start z n flags ∷ acceptedOf table (settle v (after t (Start z n flags)) t) bs) (acceptedOf table (settle v (after t (Start z n flags)) t) bs))
+        ≡ false
+        → heardFrom u (cond (eqb z u && isAccepted v) nothing w) (settle v (after t (Start z n flags)) t) bs .steps ≡ w .steps ++ stepsIn u bs
+    go Accepted ih f =
+        let p = neither (eqb z u) (startsIn u (acceptedOf table (after t (Start z n flags)) bs)) f in
+        rw (p .0) (ih (after t (Start z n flags)) (p .1))
+    go (Refused y) ih f = rw (and-false (eqb z u)) (ih t f)
+heard-all u (Step z x ∷ bs) t w e =
+    go (eqb z u)
+    (λ (h : Heard).
+    heard-all u bs (nextTable t (Step z x)) h (sym (no-start u z x (acceptedOf table (nextTable t (Step z x)) bs) (verdictOn t (Step z x))) ∙ e))
+  where
+    go :
+        (b : Bool) → ((h : Heard) → heardFrom u h (nextTable t (Step z x)) bs .steps ≡ h .steps ++ stepsIn u bs)
+        → heardFrom u (cond b (hearing w x (verdictOn t (Step z x))) w) (nextTable t (Step z x)) bs .steps
+        ≡ w .steps ++ cond b (x ∷ stepsIn u bs) (stepsIn u bs)
+    go true ih = ih _ ∙ append-assoc (w .steps) (x ∷ []) (stepsIn u bs)
+    go false ih = ih w

@@ -1,7 +1,7 @@
 -- THE AGREEMENT of each update of a table with EWD998, its SendMsg widened to any receiver (document 02, Q-4), in both directions, and that the other
 -- seven are left alone. Only statements are here; proofs/Agreement.antt proves them. `shown` and `varsOf` (ring_runs) are a ring as EWD998 sees it, and `Action` is which request stands for
 -- which action.
-use Prim.Native.Nat.{_+_, _<_, _≤_, ℕ}
+use Prim.Native.Nat.{_<_, _≤_, ℕ}
 use mathlib.Core.Bool.{false, true}
 use mathlib.Core.List.{List, [], _∷_}
 use mathlib.Core.Logic.{_↔_, _≢_, _⊎_}
@@ -9,10 +9,10 @@ use mathlib.Core.Path.{_≡_}
 use Rattle.refusal.specs.Table.{sendLimit, settle}
 use Rattle.refusal.specs.declared.Refusal.the-variants.{SendLimit}
 use Rattle.refusal.specs.declared.Verdict.the-variants.{Accepted, Refused}
-use Rattle.ring_rules.specs.Rules.{Announce, Send}
+use Rattle.ring_rules.specs.Rules.{Announce}
 use Rattle.ring_rules.specs.Start.{firstState}
 use Rattle.ring_rules.specs.State.{State}
-use Rattle.ring_runs.specs.Agreement.{Behaves, Reachable, Started as InitBy, nextsOf, sendsMade, shown}
+use Rattle.ring_runs.specs.Agreement.{BelowLimit, Behaves, Reachable, Started as InitBy, nextsOf, sendsMade, shown}
 use Rattle.ring_runs.specs.Counts.{kind, ring}
 use Rattle.ring_runs.specs.EWD998.{Init, Next, Node, RecvMsg, SendMsg, Vars, terminationDetected}
 use Rattle.ring_runs.specs.Requests.{announce, send, take}
@@ -21,7 +21,7 @@ use Rattle.runs.specs.Runs.{Request, acceptedOf, runOf}
 use Rattle.table_rules.specs.Answers.{Ask, Start, Step, answerOn, names, verdictOn}
 use Rattle.table_rules.specs.Runs.{table}
 use Rattle.table_rules.specs.Soundness.{SoundTable}
-use Rattle.table_rules.specs.Table.{Started, Table, emptyTable, fixed, sends, sendsOf, slotAt}
+use Rattle.table_rules.specs.Table.{Started, Table, emptyTable, fixed, slotAt}
 use Rattle.table_runs.specs.Counts.{AcceptsOn, historyOf, startedOf}
 
 -- ---- the starts
@@ -51,19 +51,15 @@ ringAfter t u r x = settle (verdictOn t (Step u x)) (ring .effect r x) r
 abbrev pub shownAfter : Table → ℕ → (r : State) → Request → Vars (r .n)
 shownAfter t u r x = varsOf (r .n) (ringAfter t u r x)
 
--- one send more is below the limit of the eight, where the request is a send
-abbrev pub BelowLimit : Table → Request → Type 0
-BelowLimit t x = kind x ≡ Send → sends t < sendLimit
-
 module _ (t : Table) (ok : SoundTable t) (u : ℕ) (r : State) (at : slotAt t u ≡ Started r) where
   abbrev pub someNode : 0 < r .n
   someNode = ok .each u r at .some-node
 
-  -- a step of EWD998 to s is answered: some step of u is accepted and leads to s; or it is a SendMsg at the eight's limit, and refused with 9
+  -- a step of EWD998 to s is answered: some step of u is accepted and leads to s; or it is a SendMsg at u's own limit, and refused with 9
   pub data NextAnswered (s : Vars (r .n)) : Type 0 where
     matched : (x : Request) → AcceptsOn t u x → shownAfter t u r x ≡ s → NextAnswered s
     at-limit :
-        (i : Node (r .n)) (a : SendMsg someNode i (shown r) s) → sends t ≡ sendLimit → verdictOn t (Step u (send (i .nr) (a .j .nr))) ≡ Refused SendLimit
+        (i : Node (r .n)) (a : SendMsg someNode i (shown r) s) → sendsMade r ≡ sendLimit → verdictOn t (Step u (send (i .nr) (a .j .nr))) ≡ Refused SendLimit
         → NextAnswered s
 
   pub record StepsAgree : Type 0 where
@@ -74,7 +70,7 @@ module _ (t : Table) (ok : SoundTable t) (u : ℕ) (r : State) (at : slotAt t u 
     pub accepted-is-action : (x : Request) → AcceptsOn t u x → Action someNode (shown r) (shownAfter t u r x) (kind x) (x .i) (x .j)
     -- an action from a state that is not closed is accepted, and leads to the same state
     pub action-is-accepted :
-        r .closed ≡ false → (x : Request) (s : Vars (r .n)) → Action someNode (shown r) s (kind x) (x .i) (x .j) → BelowLimit t x
+        r .closed ≡ false → (x : Request) (s : Vars (r .n)) → Action someNode (shown r) s (kind x) (x .i) (x .j) → BelowLimit r (x .kind)
         → AcceptsOn t u x × (shownAfter t u r x ≡ s)
     -- so an accepted step of u is so many steps of Next in a row: a take as many as it takes, the announcement, made where terminationDetected
     -- holds, none; a refused one changes nothing
@@ -125,9 +121,9 @@ pub record RunsAgree : Type 0 where
   pub run-is-reachable :
       (t : Table) → SoundTable t → (u : ℕ) (ls : List Ask) → startedOf u t ls ≡ true
       → (r : State) → slotAt (runOf table t ls) u ≡ Started r → (h : 0 < r .n) → Reachable h (shown r) (sendsMade r)
-  -- and each reachable state is that of u in a run from any sound table, with room for its sends beside those of the other seven
+  -- and each reachable state is that of u in a run from any sound table, whatever the other seven have sent
   pub reachable-is-run :
       (t : Table) → SoundTable t → (u : ℕ) → u < 8 → {N : ℕ} (h : 0 < N) → N ≤ 96 → (fixed t ≡ 0) ⊎ (N ≡ fixed t) → (s : Vars N) (m : ℕ)
-      → Reachable h s m → sends t + m ≤ sendLimit + sendsOf (slotAt t u) → RunTo t u s m
+      → Reachable h s m → m ≤ sendLimit → RunTo t u s m
   pub from-empty :
       (u : ℕ) → u < 8 → {N : ℕ} (h : 0 < N) → N ≤ 96 → (s : Vars N) (m : ℕ) → Reachable h s m → m ≤ sendLimit → RunTo emptyTable u s m

@@ -2,10 +2,9 @@
 -- requests are u's since its latest start.
 use Prim.Native.Nat.{_+_, _-_, _<_, ℕ}
 use lib.Dec.{eqb}
-use mathlib.Core.Bool.{Bool, _&&_, _||_, cond, false, not}
+use mathlib.Core.Bool.{Bool, _&&_, _||_, cond, false}
 use mathlib.Core.List.{List, [], _++_, _∷_}
 use mathlib.Core.Path.{_≡_}
-use Rattle.laws.specs.Sums.{sumTo}
 use Rattle.refusal.specs.Table.{isAccepted}
 use Rattle.refusal.specs.declared.Verdict.{Verdict}
 use Rattle.refusal.specs.declared.Verdict.the-variants.{Accepted}
@@ -14,7 +13,7 @@ use Rattle.ring_rules.specs.State.{State, activeAt, pendingAt}
 use Rattle.ring_runs.specs.Counts.{activeAfter, ring, sendsIn, sendsTo, takesBy}
 use Rattle.runs.specs.Runs.{Request, acceptedOf, next}
 use Rattle.table_rules.specs.Answers.{Ask, Start, Step, nextTable, verdictOn}
-use Rattle.table_rules.specs.Runs.{isNine, table}
+use Rattle.table_rules.specs.Runs.{table}
 use Rattle.table_rules.specs.Table.{Slot, Started, Table, sendsOf, slotAt}
 
 -- ---- what a list of accepted requests says of update u
@@ -72,14 +71,11 @@ pub record QuietIn (r : State) (acc : List Request) : Type 0 where
   pub passive : (b : ℕ) → b < r .n → activeIn r acc b ≡ false
   pub empty : (b : ℕ) → b < r .n → transitIn r acc b ≡ 0
 
--- the sends of an update since its latest start, and those of the eight
+-- the sends of an update since its latest start
 abbrev pub sendsSince : History → ℕ
 sendsSince h = sendsOf (h .first) + sendsIn (h .taken)
 
-abbrev pub sendsBy : Table → List Ask → ℕ
-sendsBy t ls = sumTo 8 (λ u. sendsSince (historyOf u t ls))
-
--- ---- the steps of u since its latest start, less those refused with 9, and the table's answers to these
+-- ---- the steps of u since its latest start, all of them, and the table's answers to these
 
 pub record Heard : Type 0 where
   pub steps : List Request
@@ -88,11 +84,10 @@ pub record Heard : Type 0 where
 abbrev pub nothing : Heard
 nothing = record { steps = []; answers = [] }
 
--- after one request, answered with v
+-- after one request, answered with v; a refused start of u leaves it
 abbrev pub heardNext : ℕ → Heard → Ask → Verdict → Heard
 heardNext u h (Start w n flags) v = cond (eqb w u && isAccepted v) nothing h
-heardNext u h (Step w x) v =
-    cond (eqb w u && not (isNine v)) (record { steps = h .steps ++ (x ∷ []); answers = h .answers ++ (v ∷ []) }) h
+heardNext u h (Step w x) v = cond (eqb w u) (record { steps = h .steps ++ (x ∷ []); answers = h .answers ++ (v ∷ []) }) h
 
 unfoldable pub heardFrom : ℕ → Heard → Table → List Ask → Heard
 heardFrom u h t [] = h

@@ -16,8 +16,8 @@ use Rattle.runs.specs.Runs.{Request, acceptedOf, next, runOf}
 use Rattle.table_rules.specs.Answers.{Ask, Step, answerOn, verdictOn}
 use Rattle.table_rules.specs.Runs.{table}
 use Rattle.table_rules.specs.Soundness.{SoundTable}
-use Rattle.table_rules.specs.Table.{NotStarted, Started, Table, sends, slotAt}
-use Rattle.table_runs.specs.Counts.{AcceptsOn, QuietIn, activeIn, heardOf, historyOf, ringAnswers, sendsBy, startedOf, takenOf, transitIn}
+use Rattle.table_rules.specs.Table.{NotStarted, Started, Table, sendsOf, slotAt}
+use Rattle.table_runs.specs.Counts.{AcceptsOn, QuietIn, activeIn, heardOf, historyOf, ringAnswers, sendsSince, startedOf, stepsIn, takenOf, transitIn}
 
 -- What the table accepts next, of all steps of u: one token move at least and token moves alone, or announcements alone and all of them.
 pub data OneOfTwo (t : Table) (u : ℕ) : Type 0 where
@@ -39,12 +39,15 @@ pub record Countdown (t : Table) (u n : ℕ) : Type 0 where
   pub bound : K ≤ 3 * n - 2
   pub counted : (bs : List Ask) → startedOf u t bs ≡ false → announcedIn (takenOf u t bs) ≡ false → Counted t u K bs
 
--- The steps of u since its latest start, less those refused with 9, are a run of the ring from r to s: with the same answers, and the same
--- ones accepted. A send that the ring's own limit refuses is left out too; of every 9 LimitCounted speaks.
+-- The steps of u since its latest start are a run of the ring from r to s, all of them: with the same answers, refusals included, and the same
+-- ones accepted.
 pub record FollowsRing (t : Table) (u : ℕ) (ls : List Ask) (r s : State) : Type 0 where
   pub state : s ≡ runOf ring r (heardOf u t ls .steps)
   pub answers : heardOf u t ls .answers ≡ ringAnswers r (heardOf u t ls .steps)
   pub accepted : historyOf u t ls .taken ≡ acceptedOf ring r (heardOf u t ls .steps)
+  -- and every step that names u in further requests bs goes on with it, until u is started afresh
+  pub further :
+      (bs : List Ask) → startedOf u (runOf table t ls) bs ≡ false → heardOf u t (ls ++ bs) .steps ≡ heardOf u t ls .steps ++ stepsIn u bs
 
 -- The point of update u after the requests ls, in a run from t: r stood there at u's latest start, or in t where u is not started in ls;
 -- the accepted steps since are `historyOf u t ls .taken`.
@@ -93,17 +96,19 @@ pub record WholeTable : Type 0 where
   -- A request answers as the machine does, so that the claim is about the code that meets `answerOn`.
   pub answers : (t : Table) (a : Ask) → answerOn t a ≡ record { verdict = table .verdict t a; table = next table t a }
 
--- The limit of sends, counted over a run: those of the eight together, each since its latest start.
+-- The limit of sends, counted over a run: those of each update by itself, since its latest start.
 pub record LimitCounted : Type 0 where
-  pub counted : (t : Table) → SoundTable t → (ls : List Ask) → sends (runOf table t ls) ≡ sendsBy t ls
-  -- what meets 9 is a send of a started update, and exactly 1,000,000 are made by then
+  pub counted : (t : Table) → SoundTable t → (u : ℕ) (ls : List Ask) → sendsOf (slotAt (runOf table t ls) u) ≡ sendsSince (historyOf u t ls)
+  -- what meets 9 is a send of a started update that has made exactly 1,000,000 by then
   pub only :
       (t : Table) → SoundTable t → (ls : List Ask) (a : Ask) → codeOf (verdictOn (runOf table t ls) a) ≡ 9
-      → (u : ℕ) × (x : Request) × (r : State) × (a ≡ Step u x) × (kind x ≡ Send) × (historyOf u t ls .first ≡ Started r) × (sendsBy t ls ≡ sendLimit)
-  -- a send of u from an active node, to any node, before u's announcement, is accepted exactly if fewer are made, and meets 9 exactly if so many are
+      → (u : ℕ) × (x : Request) × (r : State) × (a ≡ Step u x) × (kind x ≡ Send) × (historyOf u t ls .first ≡ Started r)
+      × (sendsSince (historyOf u t ls) ≡ sendLimit)
+  -- a send of u from an active node, to any node, before u's announcement, is accepted exactly if u has made fewer, and meets 9 exactly
+  -- if it has made so many
   pub decides :
       (t : Table) → SoundTable t → (u : ℕ) (ls : List Ask) (r : State) → historyOf u t ls .first ≡ Started r → r .closed ≡ false
       → announcedIn (historyOf u t ls .taken) ≡ false → (x : Request) → kind x ≡ Send → x .i < r .n → x .j < r .n
       → activeIn r (historyOf u t ls .taken) (x .i) ≡ true
-      → ((codeOf (verdictOn (runOf table t ls) (Step u x)) ≡ 0) ↔ (sendsBy t ls < sendLimit))
-      × ((codeOf (verdictOn (runOf table t ls) (Step u x)) ≡ 9) ↔ (sendsBy t ls ≡ sendLimit))
+      → ((codeOf (verdictOn (runOf table t ls) (Step u x)) ≡ 0) ↔ (sendsSince (historyOf u t ls) < sendLimit))
+      × ((codeOf (verdictOn (runOf table t ls) (Step u x)) ≡ 9) ↔ (sendsSince (historyOf u t ls) ≡ sendLimit))

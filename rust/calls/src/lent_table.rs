@@ -65,6 +65,17 @@ impl LentTable {
         table
     }
 
+    /// A table, with anything in the places of updates that are not started.
+    pub fn of(table: &Table, random: &mut Rng) -> Self {
+        let mut lent = Self::nothing_started(random);
+        for (update, ring) in table.updates.iter().enumerate() {
+            if let Some(ring) = ring {
+                lent.set(update, &LentRing::of(ring));
+            }
+        }
+        lent
+    }
+
     pub fn is_started(&self, update: usize) -> bool {
         self.n[update] != 0
     }

@@ -13,7 +13,9 @@ use crate::tables;
 use second::bounds::soundness::{BROKEN, NEAR_MISSES, OF_EACH, REFUSED, SIZES, SOUND};
 use second::generate::Rng;
 use second::report::Report;
+use second::request::SEND_LIMIT;
 use second::ring::{Ring, MAX_NODES};
+use second::sends::ring_with_sends;
 use second::table::UPDATES;
 
 /// Turns on each size, as many for each position of the token.
@@ -43,7 +45,7 @@ pub fn compare(seed: u64, report: &mut Report) {
 /// The calls on each ring.
 struct Calls {
     seed: u64,
-    /// Where a ring is lent as this update. The others are started, with as many nodes and no sends, or not, with noise in their places.
+    /// Where a ring is lent as this update. The others are started, with as many nodes and any number of sends, or not, with noise in their places.
     table: LentTable,
     update: usize,
     n: usize,
@@ -72,8 +74,10 @@ impl Calls {
         self.n = n;
         for update in 0..UPDATES {
             if random.chance(50) {
-                let flags: Vec<u8> = (0..n).map(|_| random.below(4) as u8).collect();
-                let ring = Ring::start(n, &flags).expect("a start in range");
+                let some = random.below(SEND_LIMIT as usize) as u32;
+                let sends = random.pick(&[0, 0, 1, some, SEND_LIMIT]);
+                let pending = random.below(5) as u32;
+                let ring = ring_with_sends(n, sends, pending, random);
                 self.table.set(update, &LentRing::of(&ring));
             }
         }

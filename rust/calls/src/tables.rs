@@ -1,9 +1,10 @@
-//! Tables by calls: starts and steps of interleaved updates, and wild tables.
+//! Tables by calls: starts and steps of interleaved updates, tables with updates at and about their limits of sends, and wild tables.
 
 use crate::answers::{Answers, BySize};
 use crate::fail;
 use crate::lent::LentRing;
 use crate::lent_table::LentTable;
+use crate::limits::Limits;
 use crate::requests::{no_counts, request, takes, waiting, Course};
 use crate::rings::{broken, FIELDS};
 use second::bounds::answers::{IS_SOUND, OF_TABLE_STEP, TABLE_START};
@@ -16,6 +17,7 @@ use second::refusal::Refusal;
 use second::report::Report;
 use second::request::{Request, SEND_LIMIT};
 use second::ring::{Ring, MAX_NODES};
+use second::sends::{of_each, ring_with_sends, table_with_sends, OfEach, Sending, SORTS};
 use second::sizes::Sizes;
 use second::table::{Table, UPDATES};
 use second::takes::Takes;
@@ -26,6 +28,7 @@ pub fn compare(seed: u64, report: &mut Report) {
     while tables.steps.total() < STEPS {
         tables.run(&mut random);
     }
+    tables.limits.made(seed, &mut random);
     tables.report(report);
 }
 
@@ -33,7 +36,7 @@ pub fn compare(seed: u64, report: &mut Report) {
 const WRONGS: [&str; 4] = [
     "a byte above 1 for a truth",
     "two N",
-    "sends over the limit together",
+    "one send of an update over its limit",
     "noise in a started place",
 ];
 
@@ -52,11 +55,10 @@ struct Tables {
     fresh_when_announced: usize,
     /// Calls of each update that were accepted.
     accepted: [usize; UPDATES],
-    /// Sends accepted after a fresh start of another update, the limit having been reached before it.
-    given_back: usize,
+    limits: Limits,
     /// Unsound tables by the field of a started update that was broken alone.
     broken: [usize; FIELDS.len()],
-    /// Unsound tables whose rings are sound one by one, or hold what is no truth.
+    /// Unsound tables by what else is wrong with them.
     wrong: [usize; WRONGS.len()],
 }
 
@@ -65,9 +67,7 @@ struct Running {
     n: usize,
     lent: LentTable,
     courses: [Option<Course>; UPDATES],
-    /// The last update whose send was refused with 9, until a fresh start of another.
-    limited: Option<usize>,
-    freed: bool,
+    sending: Sending,
 }
 
 impl Running {
@@ -81,39 +81,58 @@ impl Running {
             n,
             lent: LentTable::nothing_started(random),
             courses: [(); UPDATES].map(|()| None),
-            limited: None,
-            freed: false,
+            sending: Sending::default(),
         }
     }
 
-    /// Two updates that have nearly as many sends between them as may be, or as many.
-    fn near_send_limit(random: &mut Rng) -> Self {
-        let mut running = Self::new(random);
-        let n = running.n;
-        let first = random.below(UPDATES);
-        let second = (first + 1 + random.below(UPDATES - 1)) % UPDATES;
-        let in_all = SEND_LIMIT - random.below(4) as u32;
-        let sends = random.below(in_all as usize) as u32;
-        for (update, sends) in [(first, sends), (second, in_all - sends)] {
-            let ring = ring_with_sends(n, sends, random);
-            running.lent.set(update, &LentRing::of(&ring));
-            running.courses[update] = Some(Course::of_update(random));
-        }
-        running
+    /// Updates at and about their limits of sends, busy long enough to meet them.
+    fn near_send_limits(random: &mut Rng) -> Self {
+        let running = Self::new(random);
+        let sends = (SORTS[random.below(SORTS.len())].make)(random);
+        let table = table_with_sends(running.n, &sends, random);
+        running.with(&table, Course::new, random)
     }
 
     /// Updates with messages on their way to one node, mostly more than few.
     fn with_messages(random: &mut Rng) -> Self {
-        let mut running = Self::new(random);
-        for update in 0..UPDATES {
+        let running = Self::new(random);
+        let mut table = Table::default();
+        for place in &mut table.updates {
             if random.chance(50) {
-                let sends = waiting(random) + random.below(5) as u32;
-                let ring = ring_with_sends(running.n, sends, random);
-                running.lent.set(update, &LentRing::of(&ring));
-                running.courses[update] = Some(Course::of_update(random));
+                let pending = waiting(random);
+                let sends = pending + random.below(5) as u32;
+                *place = Some(ring_with_sends(running.n, sends, pending, random));
             }
         }
-        running
+        running.with(&table, Course::of_update, random)
+    }
+
+    /// From this table on.
+    fn with(mut self, table: &Table, begin: fn(&mut Rng) -> Course, random: &mut Rng) -> Self {
+        assert!(table.is_sound(), "the tokens are black");
+        self.lent = LentTable::of(table, random);
+        for (update, course) in self.courses.iter_mut().enumerate() {
+            *course = self.lent.is_started(update).then(|| begin(random));
+        }
+        self
+    }
+
+    /// The updates whose courses are followed, started ones first; few on large rings, so that they are announced.
+    fn in_play(&self, random: &mut Rng) -> Vec<usize> {
+        let most = if LARGE_RINGS.contains(&self.n) {
+            UPDATES / 2
+        } else {
+            UPDATES
+        };
+        let first = random.below(UPDATES);
+        let mut updates: Vec<usize> = (0..UPDATES).map(|k| (first + k) % UPDATES).collect();
+        updates.sort_by_key(|&update| !self.lent.is_started(update));
+        updates.truncate(1 + random.below(most));
+        updates
+    }
+
+    fn sends(&self) -> OfEach {
+        of_each(&self.lent.table().expect("a run's truths"))
     }
 
     fn ring(&self, update: usize) -> Option<Ring> {
@@ -123,18 +142,6 @@ impl Running {
             .then(|| self.lent.place(update));
         place.map(|place| place.ring().expect("a run's truths"))
     }
-}
-
-/// A ring of which so many sends were accepted; some may be in transit.
-fn ring_with_sends(n: usize, sends: u32, random: &mut Rng) -> Ring {
-    let flags: Vec<u8> = (0..n).map(|_| random.below(4) as u8 | 1).collect();
-    let mut ring = Ring::start(n, &flags).expect("a start in range");
-    let pending = sends.min(waiting(random));
-    ring.sent[random.below(n)] = sends;
-    ring.received[random.below(n)] = sends - pending;
-    ring.pending[random.below(n)] = pending;
-    assert!(ring.is_sound(), "the token is black");
-    ring
 }
 
 impl Tables {
@@ -153,7 +160,7 @@ impl Tables {
             fresh_when_open: 0,
             fresh_when_announced: 0,
             accepted: [0; UPDATES],
-            given_back: 0,
+            limits: Limits::default(),
             broken: [0; FIELDS.len()],
             wrong: [0; WRONGS.len()],
         }
@@ -162,23 +169,17 @@ impl Tables {
     /// Calls of interleaved updates, each compared; now and then a wild table.
     fn run(&mut self, random: &mut Rng) {
         let mut running = match random.below(5) {
-            0 => Running::near_send_limit(random),
-            1 => Running::with_messages(random),
+            0 | 1 => Running::near_send_limits(random),
+            2 => Running::with_messages(random),
             _ => Running::new(random),
         };
         for update in 0..UPDATES {
             self.all_takes(&running, update, random);
         }
-        // Few at a time on large rings, so that they are announced.
-        let most = if LARGE_RINGS.contains(&running.n) {
-            UPDATES / 2
-        } else {
-            UPDATES
-        };
-        let (first, in_play) = (random.below(UPDATES), 1 + random.below(most));
+        let in_play = running.in_play(random);
         let calls = 200 + random.below(400) + 20 * running.n;
         for _ in 0..calls {
-            let update = (first + random.below(in_play)) % UPDATES;
+            let update = random.pick(&in_play);
             match random.below(100) {
                 0..=3 => self.any_start(&mut running, random),
                 4..=6 => self.stray(&running, random),
@@ -208,6 +209,9 @@ impl Tables {
 
     fn step(&mut self, running: &mut Running, update: usize, ring: &Ring, request: Request) {
         let (told, next) = same_step(self.seed, &running.lent, update, request);
+        let (sends, sending) = (running.sends(), &mut running.sending);
+        let limits = &mut self.limits.sends;
+        limits.count_step(sending, &sends, (update, request), told);
         self.steps.count(ring.n, told);
         self.sizes.count(ring.n, told == 0);
         if !ring.closed {
@@ -218,13 +222,6 @@ impl Tables {
         running.lent = next;
         let closed = running.ring(update).is_some_and(|ring| ring.closed);
         self.announced += usize::from(closed && !ring.closed);
-        if told == 9 {
-            running.limited = Some(update);
-            running.freed = false;
-        } else if told == 0 && request.kind == 1 && running.freed {
-            self.given_back += usize::from(running.limited == Some(update));
-            running.freed = false;
-        }
     }
 
     /// Takes of every number of messages by one node of an update that runs; they are not gone on from.
@@ -273,7 +270,7 @@ impl Tables {
         if told == 0 {
             running.n = n;
             running.courses[update] = Some(Course::of_update(random));
-            running.freed |= running.limited.is_some_and(|limited| limited != update);
+            self.limits.sends.count_start(&mut running.sending, update);
             self.accepted[update] += 1;
             self.fresh_when_open += usize::from(before.as_ref().is_some_and(|ring| !ring.closed));
             self.fresh_when_announced += usize::from(before.is_some_and(|ring| ring.closed));
@@ -291,6 +288,7 @@ impl Tables {
         self.steps.count(running.n, told);
         self.soundness
             .count(same_soundness(self.seed, &running.lent));
+        self.limits.sends.count_sound(&running.sends());
     }
 
     /// The table with one field of a started update broken, or wrong in another way.
@@ -341,8 +339,7 @@ impl Tables {
         let fresh =
             fresh.map(|(name, count)| (format!("table: fresh starts of an {name} update"), count));
         report.each_at_least(FRESH, fresh);
-        let name = "table: sends of an update that was refused with 9, after another's fresh start";
-        report.at_least(name, self.given_back, GIVEN_BACK);
+        self.limits.report(report);
         let updates =
             (0..UPDATES).map(|update| format!("table: accepted calls of update {update}"));
         report.each_at_least(OF_EACH, updates.zip(self.accepted));
@@ -379,11 +376,9 @@ fn spoil(wild: &mut LentTable, update: usize, wrong: usize, random: &mut Rng) {
             wild.set(other, &LentRing::of(&ring));
         }
         2 => {
-            let sends = random.pick(&[SEND_LIMIT, SEND_LIMIT / 2 + 1]);
-            for update in [update, other] {
-                let ring = ring_with_sends(place.n, sends, random);
-                wild.set(update, &LentRing::of(&ring));
-            }
+            let pending = waiting(random);
+            let ring = ring_with_sends(place.n, SEND_LIMIT + 1, pending, random);
+            wild.set(random.pick(&[update, other]), &LentRing::of(&ring));
         }
         _ => wild.set(other, &LentRing::noise(random)),
     }
@@ -410,7 +405,7 @@ fn expected(
     }
 }
 
-fn same_start(
+pub fn same_start(
     seed: u64,
     lent: &LentTable,
     update: usize,
@@ -431,7 +426,7 @@ fn same_start(
     ours
 }
 
-fn same_step(seed: u64, lent: &LentTable, update: usize, request: Request) -> (u8, LentTable) {
+pub fn same_step(seed: u64, lent: &LentTable, update: usize, request: Request) -> (u8, LentTable) {
     let ours = expected(lent, update, |table| table.step(update, request));
     let mut theirs = lent.clone();
     let told = theirs.step(update, request);

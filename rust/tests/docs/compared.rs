@@ -3,11 +3,12 @@
 
 use crate::repository::{in_thousands, joined, lost_phrases, places_of, read, section, tables};
 use second::bounds::{
-    answers, calls, logs, own_trees, soundness, tables, texts, updates, Asked, OwnAsked,
-    TakesAsked, LARGE_RINGS, LARGE_TREES,
+    answers, calls, independence, logs, own_trees, soundness, tables, texts, updates, Asked,
+    OwnAsked, TakesAsked, LARGE_RINGS, LARGE_TREES,
 };
 use second::log::{LINE_BYTES, LINE_LIMIT};
 use second::refusal::Refusal;
+use second::request::SEND_LIMIT;
 use second::sizes::range_name;
 use second::walk::FULL;
 use second::{ring, tree};
@@ -243,13 +244,59 @@ fn of_tables() -> Vec<String> {
             "{} updates announced, {} fresh starts",
             &[tables::ANNOUNCED, tables::FRESH],
         ),
-        filled("{} sends accepted again", &[tables::GIVEN_BACK]),
         filled("{} accepted calls of each update", &[tables::OF_EACH]),
         filled(
             "each field of a started update broken alone {} times",
             &[calls::BROKEN],
         ),
         "a byte above 1 for a truth as often".to_owned(),
+    ]
+}
+
+fn of_sends() -> Vec<String> {
+    let limit = SEND_LIMIT as usize;
+    let nine = Refusal::SendLimit.number() as usize;
+    let beside = "{} sends accepted next after a {} to another update, as many refused with {} next after an accepted one of another";
+    vec![
+        filled("one to all eight, {} times", &[tables::FULL]),
+        filled(
+            "none there but {} sends together, {} or more",
+            &[limit, limit + 1],
+        ),
+        filled(
+            "{} sends accepted with each of these together",
+            &[tables::TOGETHER],
+        ),
+        filled(beside, &[tables::BESIDE, nine, nine]),
+        filled(
+            "{} fresh starts after a {} that a send of the update followed",
+            &[tables::AFRESH, nine],
+        ),
+        filled(
+            "one update with {} sends {} times not sound beside others of each sort",
+            &[limit + 1, tables::OVER],
+        ),
+    ]
+}
+
+fn of_independence() -> Vec<String> {
+    let limit = SEND_LIMIT as usize;
+    let nine = Refusal::SendLimit.number() as usize;
+    let answers = enumerated(&answers::OF_UPDATE, "and");
+    vec![
+        filled("{} pairs of sound tables", &[independence::PAIRS]),
+        filled(
+            &format!("to that update {answers} at least {{}} times each"),
+            &[independence::ANSWER],
+        ),
+        filled(
+            "{} {} times with another number of sends together",
+            &[nine, independence::NINES],
+        ),
+        filled(
+            "{} sends of it accepted with {} sends together or more in one table alone",
+            &[independence::PARTED, limit],
+        ),
     ]
 }
 
@@ -290,6 +337,8 @@ fn phrases() -> Vec<String> {
         of_own_trees(),
         of_soundness(),
         of_tables(),
+        of_sends(),
+        of_independence(),
         of_texts(),
         of_walk(),
     ]

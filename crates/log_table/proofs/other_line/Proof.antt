@@ -63,7 +63,7 @@ returns-3 c =
     let f = found-line (a .piece .now) (a .r .next) (c .before .before .before .before .before .line-end .ensures) (c .before .before .before .before .if2 .left) in
     let e = c .before .before .formless-line .ensures in
     answered-went _ _ _ _ _ _ _ _ _ _ _ (ap (tableTold _ _ _) (sym q)) (f .line-ends) (f .past) (p .0 .inside) (p .2)
-    (formless-answered _ _ _ _ _ _ _ (p .0 .lent) (p .0 .moves) (e .0) (e .1) (e .2) (e .3))
+    (formless-answered _ _ _ _ _ _ _ (p .0 .lent) (p .0 .moves) (e .0) (e .1) (e .2))
 
 pub other-line-spec : {M : Type 1} → statement M
 other-line-spec =

@@ -19,7 +19,7 @@ add-lines c = search needs
 put-answer-requires : tie.Need-put-answer-requires
 put-answer-requires c κs =
     let start = c .before .before .before .before .before .before .before .before .before .before .before .before .before .before .before .before in
-    omega (arith, start .pre .0 .room, answer-short (start .args .r .lines + 1) (c .before .before .before .before .start-update .result .verdict) (omega (arith, start .pre .0 .under)))
+    omega (arith, start .pre .0 .room, answer-short (start .args .r .lines + 1) (c .before .before .before .before .start-update .result) (omega (arith, start .pre .0 .under)))
 
 same-length : tie.Need-same-length
 same-length c = search needs
@@ -28,7 +28,7 @@ returns : tie.Need-returns
 returns c =
     let at-start-update = c .before .before .before .before .before .before .before in
     let start = c .before .before .before .before .before .before .before .before .before .before .before .before .before .before .before .before .before .before .before in
-    start-answered _ _ _ _ _ _ (start .args .u) (start .args .f) _ _ (at-start-update .start-update .result .verdict) (start .pre .0 .moves) (at-start-update .start-update .ensures)
+    start-answered _ _ _ _ _ _ (start .args .u) (start .args .f) _ _ (at-start-update .start-update .result) (start .pre .0 .moves) (at-start-update .start-update .ensures)
     (c .before .before .before .before .before .clear-moves .ensures) refl refl (c .before .before .put-answer .ensures)
 
 pub start-line-spec : {M : Type 1} → statement M

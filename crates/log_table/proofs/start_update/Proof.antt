@@ -17,7 +17,7 @@ barred-requires c κs = search needs
 returns : tie.Need-returns
 returns c =
     let start = c .before .before .before .before in
-    barred-told (memory (start .args .n .now) (start .args .pos .now) (start .args .q .now) (start .args .black .now) (start .args .closed .now) (start .args .active .now) (start .args .color .now) (start .args .sent .now) (start .args .received .now) (start .args .pending .now)) (start .args .sends) (start .args .u) (start .args .f) (c .barred .result) (start .pre .0) (c .before .before .if1 .taken) (c .barred .ensures ∙ ap (λ (n : ℕ). firstOf (barredTable n (start .args .u) (start .args .f .n))) (fixed-of (memory (start .args .n .now) (start .args .pos .now) (start .args .q .now) (start .args .black .now) (start .args .closed .now) (start .args .active .now) (start .args .color .now) (start .args .sent .now) (start .args .received .now) (start .args .pending .now))))
+    barred-told (memory (start .args .n .now) (start .args .pos .now) (start .args .q .now) (start .args .black .now) (start .args .closed .now) (start .args .active .now) (start .args .color .now) (start .args .sent .now) (start .args .received .now) (start .args .pending .now)) (start .args .u) (start .args .f) (c .barred .result) (start .pre .0) (c .before .before .if1 .taken) (c .barred .ensures ∙ ap (λ (n : ℕ). firstOf (barredTable n (start .args .u) (start .args .f .n))) (fixed-of (memory (start .args .n .now) (start .args .pos .now) (start .args .q .now) (start .args .black .now) (start .args .closed .now) (start .args .active .now) (start .args .color .now) (start .args .sent .now) (start .args .received .now) (start .args .pending .now))))
 
 array-share-prefix-flags : tie.Need-array-share-prefix-flags
 array-share-prefix-flags c =
@@ -36,7 +36,7 @@ returns-2 : tie.Need-returns-2
 returns-2 c =
     let start = c .before .before .before .before .before .before .before .before .before .before .before .before .before .before .before in
     let short = neither (c .before .before .before .before .before .before .before .before .before .before .before .before .before .if1 .left) in
-    start-told _ _ (start .args .sends) _ (start .args .u) (start .args .f) _ (start .pre .0) (start .pre .1) (short .1) (short .0) (c .start .ensures)
+    start-told _ _ (start .args .u) (start .args .f) _ (start .pre .0) (start .pre .1) (short .1) (short .0) (c .start .ensures)
 
 pub start-update-spec : {M : Type 1} → statement M
 start-update-spec =

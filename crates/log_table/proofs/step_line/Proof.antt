@@ -27,7 +27,7 @@ add-lines c = search needs
 put-answer-requires : tie.Need-put-answer-requires
 put-answer-requires c κs =
     let start = c .before .before .before .before .before .before .before .before .before .before .before .before .before .before .before .before .before in
-    omega (arith, start .pre .room, answer-short (start .args .r .lines + 1) (c .before .before .before .before .before .step .result .verdict) (omega (arith, start .pre .under)))
+    omega (arith, start .pre .room, answer-short (start .args .r .lines + 1) (c .before .before .before .before .before .step .result) (omega (arith, start .pre .under)))
 
 same-length : tie.Need-same-length
 same-length c = search needs
@@ -38,7 +38,7 @@ returns c =
     let at-step = c .before .before .before .before .before .before .before .before in
     let at-request-of = c .before .before .before .before .before .before .before .before .before .before .before .before .before .before .before .before .before .before in
     let start = c .before .before .before .before .before .before .before .before .before .before .before .before .before .before .before .before .before .before .before .before in
-    step-answered _ _ _ _ _ _ (start .args .u) (start .args .f) _ _ _ (at-step .step .result .verdict) (at-request-of .request-of .result .kind) (at-request-of .request-of .result .i)
+    step-answered _ _ _ _ _ _ (start .args .u) (start .args .f) _ _ _ (at-step .step .result) (at-request-of .request-of .result .kind) (at-request-of .request-of .result .i)
     (at-request-of .request-of .result .j) (at-moved .moved .result) (start .pre .moves) (at-step .step .ensures)
     (at-request-of .request-of .ensures) (at-moved .moved .ensures) (c .before .before .before .before .before .add-moves .ensures) refl refl (c .before .before .put-answer .ensures)
 

@@ -5,18 +5,15 @@ use borrow.Author.Needs.{needs}
 use Rattle.log_table.proofs.table_piece.Statement.{statement}
 use Rattle.log_table.proofs.table_piece.Tie as tie
 
-count-sends-requires : tie.Need-count-sends-requires
-count-sends-requires c κs = search needs
-
 scatter-requires : tie.Need-scatter-requires
 scatter-requires c κs = search needs
 
 run-lines-requires : tie.Need-run-lines-requires
 run-lines-requires c κs =
-    let p = c .before .before .before .before .before .before .before .before .before .before .before .before .before .before .before .before .before .before .before .before .before .before .before .before .before .before .pre in
+    let p = c .before .before .before .before .before .before .before .before .before .before .before .before .before .before .before .before .before .before .before .before .before .before .before .before .before .pre in
     let h = c .before .before .before .before .before .before .before .before .before .before .before .before .scatter .ensures in
     record {
-      lent = lent-by _ _ h (p .sound) _ (c .before .before .before .before .before .before .before .before .before .before .before .before .before .before .before .before .before .before .before .before .before .before .before .count-sends .ensures);
+      lent = lent-by _ _ h (p .sound);
       moves = p .moves;
       most = p .most;
       inside = p .inside;
@@ -38,7 +35,6 @@ pub table-piece-spec : {M : Type 1} → statement M
 table-piece-spec =
     tie.close
     (tie.spec
-    count-sends-requires
     scatter-requires
     run-lines-requires
     gather-requires
