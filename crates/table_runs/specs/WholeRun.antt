@@ -16,7 +16,7 @@ use Rattle.runs.specs.Runs.{Request, acceptedOf, next, runOf}
 use Rattle.table_rules.specs.Answers.{Ask, Step, answerOn, verdictOn}
 use Rattle.table_rules.specs.Runs.{table}
 use Rattle.table_rules.specs.Soundness.{SoundTable}
-use Rattle.table_rules.specs.Table.{NotStarted, Started, Table, sendsOf, slotAt}
+use Rattle.table_rules.specs.Table.{NotStarted, Started, Table, emptyTable, sendsOf, slotAt}
 use Rattle.table_runs.specs.Counts.{AcceptsOn, QuietIn, activeIn, heardOf, historyOf, ringAnswers, sendsSince, startedOf, stepsIn, takenOf, transitIn}
 
 -- What the table accepts next, of all steps of u: one token move at least and token moves alone, or announcements alone and all of them.
@@ -104,6 +104,8 @@ pub record LimitCounted : Type 0 where
       (t : Table) → SoundTable t → (ls : List Ask) (a : Ask) → codeOf (verdictOn (runOf table t ls) a) ≡ 9
       → (u : ℕ) × (x : Request) × (r : State) × (a ≡ Step u x) × (kind x ≡ Send) × (historyOf u t ls .first ≡ Started r)
       × (sendsSince (historyOf u t ls) ≡ sendLimit)
+  -- from the empty table more than 1,000,000 requests come before it, a start among them: more than the lines of a log
+  pub far : (ls : List Ask) (a : Ask) → codeOf (verdictOn (runOf table emptyTable ls) a) ≡ 9 → sendLimit < length ls
   -- a send of u from an active node, to any node, before u's announcement, is accepted exactly if u has made fewer, and meets 9 exactly
   -- if it has made so many
   pub decides :
