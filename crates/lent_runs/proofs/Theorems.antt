@@ -22,7 +22,7 @@ use Rattle.runs.specs.Runs.{Request, acceptedOf, runOf}
 use Rattle.table_rules.proofs.Theorems.{table-kept, table-tested}
 use Rattle.table_rules.specs.Answers.{Ask, Step, verdictOn}
 use Rattle.table_rules.specs.Runs.{table}
-use Rattle.table_rules.specs.Soundness.{soundTableTest}
+use Rattle.table_rules.specs.Soundness.{SoundTable, soundTableTest}
 use Rattle.table_rules.specs.Table.{Table}
 use Rattle.table_runs.proofs.WholeRun.{whole-table}
 use Rattle.ring_rules.proofs.Answers as ringAnswered
@@ -50,7 +50,7 @@ use Rattle.lent_runs.proofs.Table as tables
 use Rattle.lent_runs.proofs.Tree as trees
 use Rattle.lent_runs.specs.Ring.{RingCall, drive, fieldsAfter, fieldsLeft, numberTold, requestsIn, requestsOf, step}
 use Rattle.lent_runs.specs.Table.{columnsAfter}
-use Rattle.lent_runs.specs.Theorems.{RingCalls, TableCalls, TreeCalls, WholeCalls}
+use Rattle.lent_runs.specs.Theorems.{CallsIndependent, RingCalls, TableCalls, TreeCalls, WholeCalls}
 use Rattle.lent_runs.specs.Tree.{treeFieldsAfter}
 
 -- a number that is a verdict's code is 0 exactly if the verdict is accepted
@@ -162,11 +162,16 @@ one-true false e = absurd (omega arith)
 
 -- ---- the table
 
+sound-in : (m : LentTable) → tableSoundNumber m ≡ 1 → (tableTruths m ≡ true) × SoundTable (tableIn m)
+sound-in m k =
+    let p = both (tableTruths m) (soundTableTest (tableIn m)) (one-true _ k) in
+    (p .0, table-tested .holds (tableIn m) (p .1))
+
 table-calls : (m : LentTable) → Eight m → tableSoundNumber m ≡ 1 → (ls : List Ask) → TableCalls m ls
 table-calls m e k ls =
-    let p = both (tableTruths m) (soundTableTest (tableIn m)) (one-true _ k) in
+    let p = sound-in m k in
     let c = tables.comes m e (p .0) ls in
-    let ok = table-tested .holds (tableIn m) (p .1) in
+    let ok = p .1 in
     let told : (a : Ask) → askNumber (columnsAfter m ls) a ≡ codeOf (verdictOn (runOf table (tableIn m) ls) a) = λ a.
     ap (λ (b : Bool). codeOf (cond b (verdictOn (tableIn (columnsAfter m ls)) a) (Refused Unsound))) (c .truths) ∙
     ap (λ (t : Table). codeOf (verdictOn t a)) (c .table-there) in
@@ -182,6 +187,18 @@ table-calls m e k ls =
       point = λ u r. whole-table .point (tableIn m) ok u ls r;
       quiet = λ u r b o x k z. whole-table .point (tableIn m) ok u ls r b o .quiet x k (zero-accepted _ _ (told (Step u x)) .0 z);
       unnamed = λ u. tables.unnamed u m ls;
+    }
+
+pub calls-independent : CallsIndependent
+calls-independent =
+    record {
+      same = λ m m′ e e′ k k′ some one u h same ls ls′ q.
+          let p = sound-in m k in
+          let p′ = sound-in m′ k′ in
+          record {
+            numbers = tables.same-numbers m m′ e e′ (p .0) (p′ .0) (p .1) (p′ .1) some one u h same ls ls′ q;
+            fields = tables.same-fields m m′ e e′ (p .0) (p′ .0) (p .1) (p′ .1) some one u h same ls ls′ q;
+          };
     }
 
 pub whole-calls : WholeCalls

@@ -1,6 +1,6 @@
 -- Demand 3 of calls: lists of steps and drives on one ring that is lent, and of steps on one tree, refused ones included, are runs. A start begins a
 -- new list; soundness and texts only read what is lent.
-use Prim.Native.Nat.{_*_, _-_, _≤_, ℕ}
+use Prim.Native.Nat.{_*_, _-_, _<_, _≤_, ℕ}
 use mathlib.Core.Bool.{false}
 use mathlib.Core.List.{List, []}
 use mathlib.Core.Logic.{_↔_}
@@ -12,7 +12,7 @@ use Rattle.refusal.specs.Table.{codeOf}
 use Rattle.runs.specs.Runs.{Accepts, Request, acceptedOf, runOf}
 use Rattle.table_rules.specs.Answers.{Ask, Step, verdictOn}
 use Rattle.table_rules.specs.Runs.{naming, table}
-use Rattle.table_rules.specs.Table.{Started}
+use Rattle.table_rules.specs.Table.{Started, fixed}
 use Rattle.table_runs.specs.Counts.{QuietIn, historyOf}
 use Rattle.table_runs.specs.WholeRun as tableRun
 use Rattle.ring_rules.specs.Driver as ringDrive
@@ -29,7 +29,7 @@ use Rattle.tree_rules.specs.State as treeState
 use Rattle.tree_runs.specs.Counts as treeCounts
 use Rattle.tree_runs.specs.WholeRun as treeRun
 use Rattle.lent_runs.specs.Ring.{RingCall, drive, fieldsAfter, fieldsLeft, numberTold, requestsIn, requestsOf, step}
-use Rattle.lent_runs.specs.Table.{columnsAfter}
+use Rattle.lent_runs.specs.Table.{columnsAfter, numbersTo}
 use Rattle.lent_runs.specs.Tree.{treeFieldsAfter}
 
 -- After the calls cs on the fields of the ring r, which come to the requests xs.
@@ -83,6 +83,19 @@ pub record TableCalls (m : LentTable) (ls : List Ask) : Type 0 where
       → ringCounts.kind x ≡ ringRules.Announce → askNumber (columnsAfter m ls) (Step u x) ≡ 0 → QuietIn r (historyOf u (tableIn m) ls .taken)
   -- every byte of an update that none of them names is as it was
   pub unnamed : (u : ℕ) → naming u ls ≡ [] → fieldsAt (columnsAfter m ls) u ≡ fieldsAt m u
+
+-- the calls ls and ls′ that name u are told the same numbers one by one, and leave the same in every byte of u
+pub record CallsAlike (m m′ : LentTable) (u : ℕ) (ls ls′ : List Ask) : Type 0 where
+  pub numbers : numbersTo u m ls ≡ numbersTo u m′ ls′
+  pub fields : fieldsAt (columnsAfter m ls) u ≡ fieldsAt (columnsAfter m′ ls′) u
+
+-- Q-5, of calls: two tables that are told as sound, with one fixed n, in which every byte of u is the same, and any two lists of starts and steps of
+-- which those naming u are the same.
+pub record CallsIndependent : Type 0 where
+  pub same :
+      (m m′ : LentTable) → Eight m → Eight m′ → tableSoundNumber m ≡ 1 → tableSoundNumber m′ ≡ 1
+      → 0 < fixed (tableIn m) → fixed (tableIn m) ≡ fixed (tableIn m′) → (u : ℕ) → u < 8 → fieldsAt m u ≡ fieldsAt m′ u
+      → (ls ls′ : List Ask) → naming u ls ≡ naming u ls′ → CallsAlike m m′ u ls ls′
 
 -- for every such list on the fields of every sound state that is not yet announced
 pub record WholeCalls : Type 0 where

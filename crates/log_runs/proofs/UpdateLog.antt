@@ -1,12 +1,12 @@
 -- The statement of specs/UpdateLog.antt, proved. Assumes nothing.
 use Prim.Native.Nat.{_*_, _+_, _-_, _<_, _≤_, suc, zero, ℕ}
 use borrow.Author.Tests.{eq-eqb, eqb-true}
-use lib.Dec.{eqb}
+use lib.Dec.{eqb, ltb}
 use lib.ListN.{getD, getD-replicate, length, length-append}
 use lib.Seq.{ext-getD, take-length}
-use mathlib.Core.Bool.{Bool, _&&_, _||_, cond, false, true}
+use mathlib.Core.Bool.{Bool, _&&_, _||_, cond, false, not, true}
 use mathlib.Core.List.{List, [], _++_, _∷_, map}
-use mathlib.Core.Logic.{_↔_, _⊎_, inl, inr}
+use mathlib.Core.Logic.{_↔_, _≢_, _⊎_, inl, inr}
 use mathlib.Core.Path.{_∙_, _≡_, ap, refl, subst, sym}
 use native.Mathlib.Nat.{add-suc, add-zero}
 use native.Mathlib.Decide.{decLt}
@@ -14,9 +14,11 @@ use native.Mathlib.Omega.{arith}
 use Rattle.forms.specs.Form.{Form, Says, announce, update}
 use Rattle.laws.proofs.Tests.{false-true, left-true, right-true}
 use Rattle.log_rules.specs.Answers.{Stage, answerText, endText, noMoves, onTable, ringRequest, tableEnd}
+use Rattle.log_rules.specs.Lines.{lineLimit}
 use Rattle.log_rules.specs.Output.{outputOf}
 use Rattle.refusal.proofs.Table.{not-both}
-use Rattle.refusal.specs.Table.{isAccepted, settle}
+use Rattle.refusal.specs.Table.{_⟶_, codeOf, firstOf, isAccepted, settle}
+use Rattle.refusal.specs.declared.Refusal.the-variants.{NodeCount, UnknownNode, UnknownUpdate}
 use Rattle.refusal.specs.declared.Verdict.{Verdict}
 use Rattle.refusal.specs.declared.Verdict.the-variants.{Accepted, Refused}
 use Rattle.ring_rules.specs.Start.{firstState}
@@ -32,11 +34,12 @@ use Rattle.runs.specs.Runs.{Request, acceptedOf, runOf}
 use Rattle.table_rules.proofs.Slots.{never-started, same-state}
 use Rattle.table_rules.proofs.Soundness.{empty-fixed, empty-sound}
 use Rattle.table_rules.proofs.Theorems.{table-kept, table-numbers}
-use Rattle.table_rules.specs.Answers.{Start, Step, answerOn, verdictOn}
+use Rattle.table_rules.specs.Answers.{Start, Step, answerOn, otherNodes, verdictOn}
 use Rattle.table_rules.specs.Runs.{table}
 use Rattle.table_rules.specs.Soundness.{SoundTable}
 use Rattle.table_rules.specs.Table.{NotStarted, Started, Table, emptyTable, fixed, slotAt}
 use Rattle.table_runs.proofs.Agreement.{runs-agree}
+use Rattle.table_runs.proofs.Limit.{limit-counted}
 use Rattle.table_runs.proofs.Updates.{unknown-step}
 use Rattle.table_runs.proofs.WholeRun.{history-append, history-on, whole-table}
 use Rattle.table_runs.specs.Counts.{AcceptsOn, History, QuietIn, begun, historyIn, historyNext, historyOf, startedOf, startsIn, stepsIn, takenOf}
@@ -46,7 +49,7 @@ use Rattle.log_runs.proofs.First.{asks-once, list-at, list-length, tabl
 use Rattle.log_runs.proofs.Runs.{between, between-next, between-none, each-at, lines-printed, said-later}
 use Rattle.log_runs.proofs.Updates.{moves-history, moves-length, update-answers, update-each, update-reads, update-requests}
 use Rattle.log_runs.specs.Answered.{answers, said, verdictAt}
-use Rattle.log_runs.specs.First.{flagsTo, knownBy, updateVerdict}
+use Rattle.log_runs.specs.First.{flagsTo, inRange, knownBy, updateVerdict}
 use Rattle.log_runs.specs.Says.{Ask, Each, cut, listTo, movesIn, no-step, other, printed, request, requestsIn, says, stageAfter}
 use Rattle.log_runs.specs.UpdateLog.{AnnouncedAt, LineOk, NoAnnouncement, NoStart, OpenAt, QuietAt, StartedAt, UpdateCountsDown, UpdateLog, made, movesAt, tableAt, tableBegun}
 use Rattle.log_runs.specs.Updates.{UpdateAsk, UpdateAsks, movesAfter, oksOf, start, step, stepsOn, tableAsk, toTable, updates, verdictOf}
@@ -54,6 +57,33 @@ use Rattle.forms.specs.declared.RingStep.the-variants as ringStep
 use Rattle.table_rules.specs.Answers as asks
 use Rattle.update_forms.specs.Wrapped as wrapped
 use Rattle.log_runs.specs.Answered as answered
+
+-- a start is never 9
+no-nine : (a b c d : Bool) → codeOf (firstOf ((a ⟶ UnknownUpdate) ∷ (b ⟶ NodeCount) ∷ (c ⟶ NodeCount) ∷ (d ⟶ UnknownNode) ∷ [])) ≢ 9
+no-nine true b c d e = omega arith
+no-nine false true c d e = omega arith
+no-nine false false true d e = omega arith
+no-nine false false false true e = omega arith
+no-nine false false false false e = omega arith
+
+-- no more requests than lines
+few-asked : (xs : List UpdateAsk) → length (toTable xs) ≤ length xs
+few-asked [] = omega arith
+few-asked (step u x ∷ xs) = omega (arith, few-asked xs)
+few-asked (start u n a b ∷ xs) = go (knownBy n a b) (few-asked xs)
+  where
+    go :
+        (k : Bool) → length (toTable xs) ≤ length xs
+        → length (cond k (Start u n (flagsTo a b n) ∷ toTable xs) (toTable xs)) ≤ length (start u n a b ∷ xs)
+    go true h = omega arith
+    go false h = omega arith
+
+few-said : (qs : List (Ask UpdateAsk)) (i : ℕ) → length (said qs i) ≤ i
+few-said [] zero = omega arith
+few-said [] (suc i) = omega arith
+few-said (q ∷ qs) zero = omega arith
+few-said (request x ∷ qs) (suc i) = omega (arith, few-said qs i)
+few-said (no-step ∷ qs) (suc i) = omega (arith, few-said qs i)
 
 true-unless : {b : Bool} → (b ≡ false → ⊥) → b ≡ true
 true-unless {b = true} bad = refl
@@ -580,6 +610,19 @@ module _
         counts-down u i (d .K) (d .counted),
       )
 
+  -- ---- 9
+
+  never : (i : ℕ) → 2 + i ≤ lineLimit → codeOf (verdictAt updates (tableBegun first) qs i) ≢ 9
+  never i h = go (getD qs i no-step)
+    where
+      go : (q : Ask UpdateAsk) → codeOf (answered.verdictOn updates (here i) q) ≢ 9
+      go (request (step u x)) e =
+          let f = limit-counted .far (made first qs i) (Step u x) (ap (λ (t : Table). codeOf (verdictOn t (Step u x))) (sym (judged i)) ∙ e) in
+          omega (arith, few-asked (said qs i), few-said qs i)
+      go (request (start u m a b)) e =
+          no-nine (not (ltb u 8)) (otherNodes (here i) m) (not (inRange 96 m)) (not (knownBy m a b)) e
+      go no-step e = omega arith
+
   -- ---- the end lines
 
   all-said : said qs (length qs) ≡ requestsIn qs
@@ -623,6 +666,7 @@ module _
             ∙ (ap (λ (x : Table). answerText 1 Accepted ++ (answers updates t qs ++ tableEnd x moves)) table-end
             ∙ ap (λ (ms : List ℕ). answerText 1 Accepted ++ (answers updates t qs ++ tableEnd (tableAt first qs (length qs)) ms)) moves-end)));
         judged = judged;
+        below-limit = never;
         starts = λ i u m a b e k.
             ap (answered.verdictOn updates (here i)) e
             ∙ (ap (λ (x : Table). updateVerdict x u m a b) (judged i) ∙ sym (table-rows (tableAt first qs i) (sound-at i) u m a b k));

@@ -1,4 +1,4 @@
--- Q-1: runs of a table, a list of requests of any kind, to any updates and with any numbers; refused ones stay in it.
+-- Q-1 and Q-5: runs of a table, a list of requests of any kind, to any updates and with any numbers; refused ones stay in it.
 use Prim.Native.Nat.{ℕ}
 use lib.Dec.{eqb, ltb}
 use mathlib.Core.Bool.{cond, not}

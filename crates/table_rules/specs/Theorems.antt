@@ -4,7 +4,6 @@ use mathlib.Core.Bool.{false, true}
 use mathlib.Core.List.{List}
 use mathlib.Core.Logic.{_↔_, _≢_, _⊎_}
 use mathlib.Core.Path.{_≡_}
-use Rattle.laws.specs.Sums.{total}
 use Rattle.refusal.specs.Table.{FirstIs, NoneHolds, Row, codeOf, sendLimit}
 use Rattle.refusal.specs.declared.Refusal.{Refusal}
 use Rattle.refusal.specs.declared.Verdict.the-variants.{Accepted, Refused}
@@ -89,13 +88,13 @@ pub record LimitOfEach : Type 0 where
   pub only :
       (t : Table) → SoundTable t → (a : Ask) → codeOf (verdictOn t a) ≡ 9
       → (u : ℕ) × (x : Request) × (r : State) × (a ≡ Step u x) × (kindOf (x .kind) ≡ Send) × (slotAt t u ≡ Started r)
-      × (total (r .sent) (r .n) ≡ sendLimit)
+      × (sendsOf (slotAt t u) ≡ sendLimit)
   -- a send that meets no row above is accepted exactly if its update has made fewer, and meets 9 exactly if it has made so many
   pub decides :
       (t : Table) → SoundTable t → (u : ℕ) (r : State) → slotAt t u ≡ Started r → r .closed ≡ false → (x : Request) → kindOf (x .kind) ≡ Send
       → Sending r (x .i) (x .j)
-      → ((codeOf (verdictOn t (Step u x)) ≡ 0) ↔ (total (r .sent) (r .n) < sendLimit))
-      × ((codeOf (verdictOn t (Step u x)) ≡ 9) ↔ (total (r .sent) (r .n) ≡ sendLimit))
+      → ((codeOf (verdictOn t (Step u x)) ≡ 0) ↔ (sendsOf (slotAt t u) < sendLimit))
+      × ((codeOf (verdictOn t (Step u x)) ≡ 9) ↔ (sendsOf (slotAt t u) ≡ sendLimit))
 
 -- The sends of each update after one request: an accepted send adds one to those of its own update, an accepted start begins with none, and
 -- nothing else changes any.

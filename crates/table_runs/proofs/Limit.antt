@@ -7,10 +7,12 @@ use mathlib.Core.Logic.{_↔_}
 use mathlib.Core.Path.{_∙_, _≡_, ap, refl, subst, sym}
 use native.Mathlib.Decide.{ℕ-discrete}
 use native.Mathlib.Omega.{arith}
+use Rattle.laws.proofs.Sums.{total-zeros}
 use Rattle.refusal.specs.Table.{codeOf, sendLimit, settle}
 use Rattle.refusal.specs.declared.Verdict.{Verdict}
 use Rattle.refusal.specs.declared.Verdict.the-variants.{Accepted, Refused}
 use Rattle.ring_rules.specs.Rules.{Announce, Idle, Kind, Pass, Probe, Send, Take, Unknown}
+use Rattle.ring_rules.specs.Start.{firstState}
 use Rattle.ring_rules.specs.State.{State}
 use Rattle.ring_rules.specs.Theorems.{Sending}
 use Rattle.ring_runs.proofs.Trace.{run-active, run-closed, run-n, run-sent}
@@ -26,8 +28,9 @@ use Rattle.table_rules.specs.Runs.{table}
 use Rattle.table_rules.specs.Soundness.{SoundTable}
 use Rattle.table_rules.specs.Table.{NotStarted, Slot, Started, Table, emptyTable, sendsOf, slotAt}
 use Rattle.table_rules.specs.Theorems.{isSend}
-use Rattle.table_runs.proofs.Updates.{told-of, unknown-step}
-use Rattle.table_runs.specs.Counts.{activeIn, heardOf, historyOf, sendsSince}
+use Rattle.table_runs.proofs.Updates.{start-first, told-of, unknown-step}
+use Rattle.table_runs.proofs.WholeRun.{latest}
+use Rattle.table_runs.specs.Counts.{activeIn, heardOf, historyOf, sendsSince, startedOf}
 use Rattle.table_runs.specs.WholeRun.{LimitCounted}
 
 module _ (t : Table) (ok : SoundTable t) (ls : List Ask) where
@@ -61,7 +64,7 @@ module _ (t : Table) (ok : SoundTable t) (ls : List Ask) where
   only a e =
       let w = limit-of-each .only here (run-sound t ok ls) a e in
       let b = began (w .0) (w .2) (w .5) in
-      (w .0, w .1, b .0, w .3, w .4, b .1, sym (counted (w .0)) ∙ ap sendsOf (w .5) ∙ w .6)
+      (w .0, w .1, b .0, w .3, w .4, b .1, sym (counted (w .0)) ∙ w .6)
 
   module _ (u : ℕ) (r : State) (e : historyOf u t ls .first ≡ Started r) where
     decides :
@@ -81,8 +84,28 @@ module _ (t : Table) (ok : SoundTable t) (ls : List Ask) where
         } in
         subst
         (λ (m : ℕ). ((codeOf (verdictOn here (Step u x)) ≡ 0) ↔ (m < sendLimit)) × ((codeOf (verdictOn here (Step u x)) ≡ 9) ↔ (m ≡ sendLimit)))
-        (sym (ap sendsOf (w .stands)) ∙ counted u)
+        (counted u)
         (limit-of-each .decides here (run-sound t ok ls) u _ (w .stands) (run-closed c (w .sound) ∙ rw (sym (w .accepted), running, n)) x k s)
+
+-- ---- since a start
+
+same-step : {u v : ℕ} {x y : Request} → Step u x ≡ Step v y → (u ≡ v) × (x ≡ y)
+same-step e = (cc, cc)
+
+-- a start begins at none
+fresh-none : (u : ℕ) (t : Table) (ls : List Ask) → startedOf u t ls ≡ true → sendsSince (historyOf u t ls) ≡ sendsIn (historyOf u t ls .taken)
+unfolding firstState
+fresh-none u t ls e =
+    let w = latest u t ls e in
+    let z : sendsOf (historyOf u t ls .first) ≡ 0 = ap sendsOf (w .stands) ∙ total-zeros 96 (w .n) (start-first (w .n) (w .flags) (w .accepted) .sound .nodes) in
+    omega arith
+
+module _ (t : Table) (ok : SoundTable t) (u : ℕ) (ls : List Ask) (e : startedOf u t ls ≡ true) (x : Request) where
+  since : codeOf (verdictOn (runOf table t ls) (Step u x)) ≡ 9 → (kind x ≡ Send) × (sendsIn (historyOf u t ls .taken) ≡ sendLimit)
+  since q =
+      let w = only t ok ls (Step u x) q in
+      let p = same-step (w .3) in
+      (ap kind (p .1) ∙ w .4, sym (fresh-none u t ls e) ∙ ap (λ (v : ℕ). sendsSince (historyOf v t ls)) (p .0) ∙ w .6)
 
 -- ---- how many requests come before a 9
 
@@ -124,7 +147,7 @@ run-most (a ∷ ls) t ok u = omega (arith, run-most ls (nextTable t a) (next-sou
 
 far : (ls : List Ask) (a : Ask) → codeOf (verdictOn (runOf table emptyTable ls) a) ≡ 9 → sendLimit < length ls
 unfolding runOf
-far ls a e = go ls (let w = limit-of-each .only (runOf table emptyTable ls) (run-sound emptyTable empty-sound ls) a e in (w .0, ap sendsOf (w .5) ∙ w .6))
+far ls a e = go ls (let w = limit-of-each .only (runOf table emptyTable ls) (run-sound emptyTable empty-sound ls) a e in (w .0, w .6))
   where
     none : (u : ℕ) → slotAt emptyTable u ≡ NotStarted
     none = table-numbers .none-fixed emptyTable empty-sound empty-fixed
@@ -139,4 +162,4 @@ far ls a e = go ls (let w = limit-of-each .only (runOf table emptyTable ls) (run
         )
 
 pub limit-counted : LimitCounted
-limit-counted = record { counted = λ t ok u ls. counted t ok ls u; only = only; far = far; decides = λ t ok u ls r. decides t ok ls u r }
+limit-counted = record { counted = λ t ok u ls. counted t ok ls u; only = only; from-start = since; below = λ t ok u ls e h x q. let w = since t ok u ls e x q in omega (arith, w .1); far = far; decides = λ t ok u ls r. decides t ok ls u r }

@@ -25,8 +25,8 @@ use Rattle.table_rules.specs.Answers.{Ask, Start, Step, answerOn, nextTable, ve
 use Rattle.table_rules.specs.Runs.{table}
 use Rattle.table_rules.specs.Soundness.{SoundTable}
 use Rattle.table_rules.specs.Table.{Slot, Started, Table, slotAt}
-use Rattle.table_runs.proofs.Updates.{Follows, heard-all, heard-append, one-of-two, ring-accepts, settle-history, start-begins, start-first, table-accepts, told-of}
-use Rattle.table_runs.specs.Counts.{Heard, History, QuietIn, activeIn, begun, heardOf, historyIn, historyNext, historyOf, nothing, startedOf, startsIn, stepsIn, takenOf, transitIn}
+use Rattle.table_runs.proofs.Updates.{Follows, one-of-two, ring-accepts, settle-history, start-begins, start-first, table-accepts, told-of}
+use Rattle.table_runs.specs.Counts.{History, QuietIn, activeIn, begun, heardOf, historyIn, historyNext, historyOf, startedOf, startsIn, stepsIn, takenOf, transitIn}
 use Rattle.table_runs.specs.WholeRun.{Countdown, Counted, FromStart, Point, WholeTable}
 
 -- ---- histories
@@ -145,13 +145,7 @@ module _ (t : Table) (ok : SoundTable t) (u : ℕ) (ls : List Ask) (r : State) (
         record {
           s = s;
           stands = follows .stands;
-          follows =
-              record {
-                state = refl;
-                answers = follows .answers;
-                accepted = same;
-                further = λ bs h. ap (λ (w : Heard). w .steps) (heard-append u ls bs t nothing) ∙ heard-all u bs here (heardOf u t ls) h;
-              };
+          follows = record { state = refl; answers = follows .answers; accepted = same };
           activity = λ b. p .activity b ∙ ap (λ (l : List Request). activeIn r l b) (sym same);
           transit = λ b. p .transit b ∙ ap (λ (l : List Request). transitIn r l b) (sym same);
           enough = λ b. subst (λ (l : List Request). takesBy l b ≤ pendingAt r b + sendsTo l b) (sym same) (p .enough b);

@@ -1,4 +1,4 @@
--- Q-1: what is counted of update u at a point of a table's run, from the first table and the requests accepted so far alone; and which of the
+-- Q-1 and Q-5: what is counted of update u at a point of a table's run, from the first table and the requests accepted so far alone; and which of the
 -- requests are u's since its latest start.
 use Prim.Native.Nat.{_+_, _-_, _<_, ℕ}
 use lib.Dec.{eqb}
@@ -95,6 +95,16 @@ heardFrom u h t (a ∷ ls) = heardFrom u (heardNext u h a (verdictOn t a)) (next
 
 abbrev pub heardOf : ℕ → Table → List Ask → Heard
 heardOf u t ls = heardFrom u nothing t ls
+
+-- the same from a list of requests alone, where u is not started in it: every step that names u, and the table's answers to these
+unfoldable pub stepAnswers : ℕ → Table → List Ask → List Verdict
+stepAnswers u t [] = []
+stepAnswers u t (Start v n flags ∷ ls) = stepAnswers u (nextTable t (Start v n flags)) ls
+stepAnswers u t (Step v x ∷ ls) =
+    cond (eqb v u) (verdictOn t (Step v x) ∷ stepAnswers u (nextTable t (Step v x)) ls) (stepAnswers u (nextTable t (Step v x)) ls)
+
+abbrev pub heardBy : ℕ → Table → List Ask → Heard
+heardBy u t ls = record { steps = stepsIn u ls; answers = stepAnswers u t ls }
 
 -- the ring's answers to a list of requests
 unfoldable pub ringAnswers : State → List Request → List Verdict

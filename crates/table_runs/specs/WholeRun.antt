@@ -1,23 +1,24 @@
--- Q-1: "The announcement and its bound hold for each update by itself." Demand 3 for update u of a table, one claim about whole lists of
+-- Q-1: "The announcement and its bound hold for each update by itself"; and Q-5. Demand 3 for update u of a table, one claim about whole lists of
 -- requests to any updates, refused ones included. The proof is in proofs/WholeRun.antt.
 use Prim.Native.Nat.{_*_, _+_, _-_, _<_, _≤_, ℕ}
 use lib.ListN.{length}
 use mathlib.Core.Bool.{false, true}
-use mathlib.Core.List.{List, [], _++_}
-use mathlib.Core.Logic.{_↔_}
+use mathlib.Core.List.{List, [], _++_, _∷_}
+use mathlib.Core.Logic.{_↔_, _≢_}
 use mathlib.Core.Path.{_≡_}
 use Rattle.refusal.specs.Table.{codeOf, sendLimit}
+use Rattle.refusal.specs.declared.Verdict.the-variants.{Accepted}
 use Rattle.ring_rules.specs.Rules.{Announce, Send}
 use Rattle.ring_rules.specs.Soundness.{Open}
 use Rattle.ring_rules.specs.State.{State, activeAt, pendingAt, receivedAt}
 use Rattle.ring_rules.specs.Theorems.{TokenMove}
-use Rattle.ring_runs.specs.Counts.{AllMoves, announcedIn, kind, ring, sendsTo, takesBy}
+use Rattle.ring_runs.specs.Counts.{AllMoves, announcedIn, kind, ring, sendsIn, sendsTo, takesBy}
 use Rattle.runs.specs.Runs.{Request, acceptedOf, next, runOf}
-use Rattle.table_rules.specs.Answers.{Ask, Step, answerOn, verdictOn}
+use Rattle.table_rules.specs.Answers.{Ask, Start, Step, answerOn, verdictOn}
 use Rattle.table_rules.specs.Runs.{table}
 use Rattle.table_rules.specs.Soundness.{SoundTable}
 use Rattle.table_rules.specs.Table.{NotStarted, Started, Table, emptyTable, sendsOf, slotAt}
-use Rattle.table_runs.specs.Counts.{AcceptsOn, QuietIn, activeIn, heardOf, historyOf, ringAnswers, sendsSince, startedOf, stepsIn, takenOf, transitIn}
+use Rattle.table_runs.specs.Counts.{AcceptsOn, QuietIn, activeIn, heardBy, heardOf, historyOf, ringAnswers, sendsSince, startedOf, takenOf, transitIn}
 
 -- What the table accepts next, of all steps of u: one token move at least and token moves alone, or announcements alone and all of them.
 pub data OneOfTwo (t : Table) (u : ℕ) : Type 0 where
@@ -45,9 +46,6 @@ pub record FollowsRing (t : Table) (u : ℕ) (ls : List Ask) (r s : State) : Typ
   pub state : s ≡ runOf ring r (heardOf u t ls .steps)
   pub answers : heardOf u t ls .answers ≡ ringAnswers r (heardOf u t ls .steps)
   pub accepted : historyOf u t ls .taken ≡ acceptedOf ring r (heardOf u t ls .steps)
-  -- and every step that names u in further requests bs goes on with it, until u is started afresh
-  pub further :
-      (bs : List Ask) → startedOf u (runOf table t ls) bs ≡ false → heardOf u t (ls ++ bs) .steps ≡ heardOf u t ls .steps ++ stepsIn u bs
 
 -- The point of update u after the requests ls, in a run from t: r stood there at u's latest start, or in t where u is not started in ls;
 -- the accepted steps since are `historyOf u t ls .taken`.
@@ -96,6 +94,19 @@ pub record WholeTable : Type 0 where
   -- A request answers as the machine does, so that the claim is about the code that meets `answerOn`.
   pub answers : (t : Table) (a : Ask) → answerOn t a ≡ record { verdict = table .verdict t a; table = next table t a }
 
+-- The steps of u of which `FollowsRing` speaks are every step that names u since its latest accepted start, or since the first table, with the
+-- table's answers to these, from the list of requests alone.
+pub record StepsAreRun : Type 0 where
+  pub from-first : (t : Table) (u : ℕ) (ls : List Ask) → startedOf u t ls ≡ false → heardOf u t ls ≡ heardBy u t ls
+  pub from-start :
+      (t : Table) (u n : ℕ) (flags : List ℕ) (ls bs : List Ask) → verdictOn (runOf table t ls) (Start u n flags) ≡ Accepted
+      → startedOf u (answerOn (runOf table t ls) (Start u n flags) .table) bs ≡ false
+      → heardOf u t (ls ++ (Start u n flags ∷ bs)) ≡ heardBy u (answerOn (runOf table t ls) (Start u n flags) .table) bs
+  -- and they are a run of the ring from what stood there then, announced or not, to what stands there now
+  pub follows :
+      (t : Table) → SoundTable t → (u : ℕ) (ls : List Ask) (r s : State) → historyOf u t ls .first ≡ Started r
+      → slotAt (runOf table t ls) u ≡ Started s → FollowsRing t u ls r s
+
 -- The limit of sends, counted over a run: those of each update by itself, since its latest start.
 pub record LimitCounted : Type 0 where
   pub counted : (t : Table) → SoundTable t → (u : ℕ) (ls : List Ask) → sendsOf (slotAt (runOf table t ls) u) ≡ sendsSince (historyOf u t ls)
@@ -104,6 +115,13 @@ pub record LimitCounted : Type 0 where
       (t : Table) → SoundTable t → (ls : List Ask) (a : Ask) → codeOf (verdictOn (runOf table t ls) a) ≡ 9
       → (u : ℕ) × (x : Request) × (r : State) × (a ≡ Step u x) × (kind x ≡ Send) × (historyOf u t ls .first ≡ Started r)
       × (sendsSince (historyOf u t ls) ≡ sendLimit)
+  -- since a start in the run exactly so many sends of u are accepted by then, and with fewer nothing of u meets 9
+  pub from-start :
+      (t : Table) → SoundTable t → (u : ℕ) (ls : List Ask) → startedOf u t ls ≡ true → (x : Request)
+      → codeOf (verdictOn (runOf table t ls) (Step u x)) ≡ 9 → (kind x ≡ Send) × (sendsIn (historyOf u t ls .taken) ≡ sendLimit)
+  pub below :
+      (t : Table) → SoundTable t → (u : ℕ) (ls : List Ask) → startedOf u t ls ≡ true → sendsIn (historyOf u t ls .taken) < sendLimit
+      → (x : Request) → codeOf (verdictOn (runOf table t ls) (Step u x)) ≢ 9
   -- from the empty table more than 1,000,000 requests come before it, a start among them: more than the lines of a log
   pub far : (ls : List Ask) (a : Ask) → codeOf (verdictOn (runOf table emptyTable ls) a) ≡ 9 → sendLimit < length ls
   -- a send of u from an active node, to any node, before u's announcement, is accepted exactly if u has made fewer, and meets 9 exactly
