@@ -10,7 +10,7 @@ use native.Mathlib.Omega.{arith}
 use Rattle.laws.proofs.Places.{all-at}
 use Rattle.lent.proofs.Calls.{calls-answer}
 use Rattle.lent.proofs.Sound.{fields-hold}
-use Rattle.lent.proofs.Table.{in-at}
+use Rattle.lent.proofs.Table.{in-at, in-places}
 use Rattle.lent.proofs.Theorems.{refusals-keep}
 use Rattle.lent.specs.Ring.{lentOf, stateOf, truthsTest}
 use Rattle.lent.specs.Table.{Eight, LentTable, askFields, askNumber, fieldsAt, placeTruths, tableIn, tableTruths}
@@ -21,12 +21,10 @@ use Rattle.refusal.specs.declared.Verdict.the-variants.{Accepted, Refused}
 use Rattle.ring_rules.specs.State.{State}
 use Rattle.runs.specs.Runs.{runOf}
 use Rattle.table_rules.proofs.Keeps.{after-own, taken}
-use Rattle.table_rules.proofs.Slots.{never-started, put-other, same-state}
-use Rattle.table_rules.proofs.Theorems.{non-interference}
+use Rattle.table_rules.proofs.Slots.{never-started, put-other, same-state, started-inside}
 use Rattle.table_rules.specs.Answers.{Ask, after, answerOn, names, nextTable, verdictOn}
 use Rattle.table_rules.specs.Runs.{answersOf, naming, table}
-use Rattle.table_rules.specs.Soundness.{SoundTable}
-use Rattle.table_rules.specs.Table.{NotStarted, Slot, Started, Table, fixed, slotAt, slotOf}
+use Rattle.table_rules.specs.Table.{NotStarted, Slot, Started, Table, slotAt}
 use Rattle.table_rules.specs.Theorems.{Alike}
 use Rattle.lent_runs.specs.Table.{columnsAfter, numbersTo}
 
@@ -139,30 +137,31 @@ kept-fields u (a ∷ ls) m e f z =
         (refusals-keep .table {m = m} {after = askFields m a} {a = a} {number = askNumber m a} (record { told = refl; fields = refl })
         (λ o. let z : numberOf x ≡ 0 = sym (ap codeOf q) ∙ sym k ∙ o in let p = number-range x in omega arith))
 
+-- where it stands after calls
+module _ (m : LentTable) (e : Eight m) (f : tableTruths m ≡ true) (u : ℕ) (ls : List Ask) where
+  c : Comes m ls
+  c = comes m e f ls
+
+  pub fields-then : (r : State) → slotAt (runOf table (tableIn m) ls) u ≡ Started r → fieldsAt (columnsAfter m ls) u ≡ lentOf r
+  fields-then r at =
+      let here : slotAt (tableIn (columnsAfter m ls)) u ≡ Started r = ap (λ (t : Table). slotAt t u) (c .table-there) ∙ at in
+      started-fields (columnsAfter m ls) (c .truths) u (started-inside (tableIn (columnsAfter m ls)) u r (in-places (columnsAfter m ls)) here) r here
+
 module _
-    (m m′ : LentTable) (e : Eight m) (e′ : Eight m′) (f : tableTruths m ≡ true) (f′ : tableTruths m′ ≡ true) (ok : SoundTable (tableIn m))
-    (ok′ : SoundTable (tableIn m′)) (some : 0 < fixed (tableIn m)) (one : fixed (tableIn m) ≡ fixed (tableIn m′)) (u : ℕ) (h : u < 8)
-    (same : fieldsAt m u ≡ fieldsAt m′ u) (ls ls′ : List Ask) (q : naming u ls ≡ naming u ls′) where
-  alike : Alike (tableIn m) (tableIn m′) u ls ls′
-  alike =
-      non-interference .same (tableIn m) (tableIn m′) ok ok′ some one u
-      (in-at m u h ∙ ap (λ l. slotOf (stateOf l)) same ∙ sym (in-at m′ u h)) ls ls′ q
-
+    (m m′ : LentTable) (e : Eight m) (e′ : Eight m′) (f : tableTruths m ≡ true) (f′ : tableTruths m′ ≡ true) (u : ℕ) (ls ls′ : List Ask)
+    (w : Alike (tableIn m) (tableIn m′) u ls ls′) where
   pub same-numbers : numbersTo u m ls ≡ numbersTo u m′ ls′
-  same-numbers = numbers-told u ls m e f ∙ ap (map codeOf) (alike .answers) ∙ sym (numbers-told u ls′ m′ e′ f′)
+  same-numbers = numbers-told u ls m e f ∙ ap (map codeOf) (w .answers) ∙ sym (numbers-told u ls′ m′ e′ f′)
 
-  pub same-fields : fieldsAt (columnsAfter m ls) u ≡ fieldsAt (columnsAfter m′ ls′) u
-  same-fields = go (slotAt (runOf table (tableIn m) ls) u) refl
-    where
-      c : Comes m ls
-      c = comes m e f ls
+  there : slotAt (tableIn (columnsAfter m ls)) u ≡ slotAt (runOf table (tableIn m) ls) u
+  there = ap (λ (t : Table). slotAt t u) (comes m e f ls .table-there)
 
-      c′ : Comes m′ ls′
-      c′ = comes m′ e′ f′ ls′
+  pub same-fields :
+      (r : State) → slotAt (tableIn (columnsAfter m ls)) u ≡ Started r
+      → (fieldsAt (columnsAfter m ls) u ≡ lentOf r) × (fieldsAt (columnsAfter m′ ls′) u ≡ lentOf r)
+  same-fields r at = let z = sym there ∙ at in (fields-then m e f u ls r z, fields-then m′ e′ f′ u ls′ r (sym (w .slot) ∙ z))
 
-      go : (s : Slot) → slotAt (runOf table (tableIn m) ls) u ≡ s → fieldsAt (columnsAfter m ls) u ≡ fieldsAt (columnsAfter m′ ls′) u
-      go NotStarted at = kept-fields u ls m e f at ∙ same ∙ sym (kept-fields u ls′ m′ e′ f′ (sym (alike .slot) ∙ at))
-      go (Started s) at =
-          started-fields (columnsAfter m ls) (c .truths) u h s (ap (λ (t : Table). slotAt t u) (c .table-there) ∙ at)
-          ∙ sym
-          (started-fields (columnsAfter m′ ls′) (c′ .truths) u h s (ap (λ (t : Table). slotAt t u) (c′ .table-there) ∙ sym (alike .slot) ∙ at))
+  pub left-fields :
+      slotAt (tableIn (columnsAfter m ls)) u ≡ NotStarted
+      → (fieldsAt (columnsAfter m ls) u ≡ fieldsAt m u) × (fieldsAt (columnsAfter m′ ls′) u ≡ fieldsAt m′ u)
+  left-fields at = let z = sym there ∙ at in (kept-fields u ls m e f z, kept-fields u ls′ m′ e′ f′ (sym (w .slot) ∙ z))

@@ -19,7 +19,7 @@ use Rattle.refusal.specs.declared.Verdict.{Verdict}
 use Rattle.refusal.specs.declared.Verdict.the-variants.{Accepted, Refused}
 use Rattle.runs.proofs.Runs.{run-of}
 use Rattle.runs.specs.Runs.{Request, acceptedOf, runOf}
-use Rattle.table_rules.proofs.Theorems.{table-kept, table-tested}
+use Rattle.table_rules.proofs.Theorems.{non-interference, table-kept, table-tested}
 use Rattle.table_rules.specs.Answers.{Ask, Step, verdictOn}
 use Rattle.table_rules.specs.Runs.{table}
 use Rattle.table_rules.specs.Soundness.{SoundTable, soundTableTest}
@@ -192,12 +192,14 @@ table-calls m e k ls =
 pub calls-independent : CallsIndependent
 calls-independent =
     record {
-      same = λ m m′ e e′ k k′ some one u h same ls ls′ q.
+      same = λ m m′ e e′ k k′ some one u at ls ls′ q.
           let p = sound-in m k in
           let p′ = sound-in m′ k′ in
+          let w = non-interference .same (tableIn m) (tableIn m′) (p .1) (p′ .1) some one u at ls ls′ q in
           record {
-            numbers = tables.same-numbers m m′ e e′ (p .0) (p′ .0) (p .1) (p′ .1) some one u h same ls ls′ q;
-            fields = tables.same-fields m m′ e e′ (p .0) (p′ .0) (p .1) (p′ .1) some one u h same ls ls′ q;
+            numbers = tables.same-numbers m m′ e e′ (p .0) (p′ .0) u ls ls′ w;
+            started = tables.same-fields m m′ e e′ (p .0) (p′ .0) u ls ls′ w;
+            not-started = tables.left-fields m m′ e e′ (p .0) (p′ .0) u ls ls′ w;
           };
     }
 

@@ -12,7 +12,7 @@ use Rattle.refusal.specs.Table.{codeOf}
 use Rattle.runs.specs.Runs.{Accepts, Request, acceptedOf, runOf}
 use Rattle.table_rules.specs.Answers.{Ask, Step, verdictOn}
 use Rattle.table_rules.specs.Runs.{naming, table}
-use Rattle.table_rules.specs.Table.{Started, fixed}
+use Rattle.table_rules.specs.Table.{NotStarted, Started, fixed, slotAt}
 use Rattle.table_runs.specs.Counts.{QuietIn, historyOf}
 use Rattle.table_runs.specs.WholeRun as tableRun
 use Rattle.ring_rules.specs.Driver as ringDrive
@@ -84,17 +84,23 @@ pub record TableCalls (m : LentTable) (ls : List Ask) : Type 0 where
   -- every byte of an update that none of them names is as it was
   pub unnamed : (u : ℕ) → naming u ls ≡ [] → fieldsAt (columnsAfter m ls) u ≡ fieldsAt m u
 
--- the calls ls and ls′ that name u are told the same numbers one by one, and leave the same in every byte of u
+-- the calls ls and ls′ that name u are told the same numbers one by one; where u is started after them, every byte of it is the same; where it is
+-- not, nothing was written there
 pub record CallsAlike (m m′ : LentTable) (u : ℕ) (ls ls′ : List Ask) : Type 0 where
   pub numbers : numbersTo u m ls ≡ numbersTo u m′ ls′
-  pub fields : fieldsAt (columnsAfter m ls) u ≡ fieldsAt (columnsAfter m′ ls′) u
+  pub started :
+      (r : ringState.State) → slotAt (tableIn (columnsAfter m ls)) u ≡ Started r
+      → (fieldsAt (columnsAfter m ls) u ≡ lentOf r) × (fieldsAt (columnsAfter m′ ls′) u ≡ lentOf r)
+  pub not-started :
+      slotAt (tableIn (columnsAfter m ls)) u ≡ NotStarted
+      → (fieldsAt (columnsAfter m ls) u ≡ fieldsAt m u) × (fieldsAt (columnsAfter m′ ls′) u ≡ fieldsAt m′ u)
 
--- Q-5, of calls: two tables that are told as sound, with one fixed n, in which every byte of u is the same, and any two lists of starts and steps of
--- which those naming u are the same.
+-- Q-5, of calls: two tables that are told as sound, with one fixed n, that agree on u, and any two lists of starts and steps of which those naming
+-- u are the same.
 pub record CallsIndependent : Type 0 where
   pub same :
       (m m′ : LentTable) → Eight m → Eight m′ → tableSoundNumber m ≡ 1 → tableSoundNumber m′ ≡ 1
-      → 0 < fixed (tableIn m) → fixed (tableIn m) ≡ fixed (tableIn m′) → (u : ℕ) → u < 8 → fieldsAt m u ≡ fieldsAt m′ u
+      → 0 < fixed (tableIn m) → fixed (tableIn m) ≡ fixed (tableIn m′) → (u : ℕ) → slotAt (tableIn m) u ≡ slotAt (tableIn m′) u
       → (ls ls′ : List Ask) → naming u ls ≡ naming u ls′ → CallsAlike m m′ u ls ls′
 
 -- for every such list on the fields of every sound state that is not yet announced

@@ -2,7 +2,7 @@
 use Prim.Native.Nat.{_*_, _+_, _-_, _<_, _≤_, suc, zero, ℕ}
 use borrow.Author.Tests.{eq-eqb, eqb-true}
 use lib.Dec.{eqb, ltb}
-use lib.ListN.{getD, getD-replicate, length, length-append}
+use lib.ListN.{List·getD-eq-default, getD, getD-replicate, length, length-append}
 use lib.Seq.{ext-getD, take-length}
 use mathlib.Core.Bool.{Bool, _&&_, _||_, cond, false, not, true}
 use mathlib.Core.List.{List, [], _++_, _∷_, map}
@@ -50,7 +50,7 @@ use Rattle.log_runs.proofs.Runs.{between, between-next, between-none, e
 use Rattle.log_runs.proofs.Updates.{moves-history, moves-length, update-answers, update-each, update-reads, update-requests}
 use Rattle.log_runs.specs.Answered.{answers, said, verdictAt}
 use Rattle.log_runs.specs.First.{flagsTo, inRange, knownBy, updateVerdict}
-use Rattle.log_runs.specs.Says.{Ask, Each, cut, listTo, movesIn, no-step, other, printed, request, requestsIn, says, stageAfter}
+use Rattle.log_runs.specs.Says.{Ask, Each, cut, line, listTo, movesIn, no-line, no-step, other, printed, request, requestsIn, says, stageAfter}
 use Rattle.log_runs.specs.UpdateLog.{AnnouncedAt, LineOk, NoAnnouncement, NoStart, OpenAt, QuietAt, StartedAt, UpdateCountsDown, UpdateLog, made, movesAt, tableAt, tableBegun}
 use Rattle.log_runs.specs.Updates.{UpdateAsk, UpdateAsks, movesAfter, oksOf, start, step, stepsOn, tableAsk, toTable, updates, verdictOf}
 use Rattle.forms.specs.declared.RingStep.the-variants as ringStep
@@ -65,6 +65,10 @@ no-nine false true c d e = omega arith
 no-nine false false true d e = omega arith
 no-nine false false false true e = omega arith
 no-nine false false false false e = omega arith
+
+each-length : {R : Type 0} {P : List ℕ → Ask R → Type 0} {ls : List (List ℕ)} {qs : List (Ask R)} → Each P ls qs → length qs ≡ length ls
+each-length no-line = refl
+each-length (line p c) = omega (arith, each-length c)
 
 -- no more requests than lines
 few-asked : (xs : List UpdateAsk) → length (toTable xs) ≤ length xs
@@ -612,8 +616,8 @@ module _
 
   -- ---- 9
 
-  never : (i : ℕ) → 2 + i ≤ lineLimit → codeOf (verdictAt updates (tableBegun first) qs i) ≢ 9
-  never i h = go (getD qs i no-step)
+  early : (i : ℕ) → 2 + i ≤ lineLimit → codeOf (verdictAt updates (tableBegun first) qs i) ≢ 9
+  early i h = go (getD qs i no-step)
     where
       go : (q : Ask UpdateAsk) → codeOf (answered.verdictOn updates (here i) q) ≢ 9
       go (request (step u x)) e =
@@ -622,6 +626,17 @@ module _
       go (request (start u m a b)) e =
           no-nine (not (ltb u 8)) (otherNodes (here i) m) (not (inRange 96 m)) (not (knownBy m a b)) e
       go no-step e = omega arith
+
+  -- of so few lines
+  never : length ls < lineLimit → (i : ℕ) → codeOf (verdictAt updates (tableBegun first) qs i) ≢ 9
+  never few i e = go (decLt i (length qs))
+    where
+      go : Dec (i < length qs) → ⊥
+      go (yes h) = early i (omega (arith, each-length c)) e
+      go (no h) =
+          let p : codeOf (verdictAt updates (tableBegun first) qs i) ≡ 10 =
+          ap (λ (q : Ask UpdateAsk). codeOf (answered.verdictOn updates (here i) q)) (List·getD-eq-default qs no-step {n = i} (omega arith)) in
+          omega arith
 
   -- ---- the end lines
 
@@ -648,11 +663,11 @@ module _
   table-end = ap (runOf updates (tableBegun first)) (sym all-said) ∙ judged (length qs)
 
   pub update-log :
-      (s : List ℕ)
+      (s : List ℕ) → length ls < lineLimit
       → outputOf s
       ≡ answerText 1 Accepted ++ (printed (onTable (tableBegun first) noMoves) 2 ls ++ endText (stageAfter (onTable (tableBegun first) noMoves) 2 ls))
       → UpdateLog s ls n first
-  update-log s o =
+  update-log s few o =
       let t = tableBegun first in
       let moves = movesAfter noMoves (acceptedOf updates t (requestsIn qs)) in
       record {
@@ -666,7 +681,7 @@ module _
             ∙ (ap (λ (x : Table). answerText 1 Accepted ++ (answers updates t qs ++ tableEnd x moves)) table-end
             ∙ ap (λ (ms : List ℕ). answerText 1 Accepted ++ (answers updates t qs ++ tableEnd (tableAt first qs (length qs)) ms)) moves-end)));
         judged = judged;
-        below-limit = never;
+        below-limit = never few;
         starts = λ i u m a b e k.
             ap (answered.verdictOn updates (here i)) e
             ∙ (ap (λ (x : Table). updateVerdict x u m a b) (judged i) ∙ sym (table-rows (tableAt first qs i) (sound-at i) u m a b k));

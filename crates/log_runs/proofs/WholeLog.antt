@@ -1,15 +1,17 @@
 -- The statement of specs/WholeLog.antt, proved. Assumes nothing.
-use Prim.Native.Nat.{_*_, _-_, _≤_, ℕ}
+use Prim.Native.Nat.{_*_, _-_, _<_, _≤_, min, ℕ}
+use lib.ListN.{length}
 use mathlib.Core.Bool.{true}
 use mathlib.Core.List.{List, [], _++_, _∷_, append-nil}
 use mathlib.Core.Logic.{_⊎_, inl, inr}
 use mathlib.Core.Path.{_∙_, _≡_, ap, refl, subst}
 use native.Mathlib.Nat.{zero-add}
+use native.Mathlib.Omega.{arith}
 use Rattle.decimal.specs.Text.{decimal, digits}
 use Rattle.log_rules.proofs.Cuts.{lines-over}
 use Rattle.log_rules.proofs.Theorems.{lines-cut, lines-read}
 use Rattle.log_rules.specs.Answers.{Stage, answerText, endText, fresh, onRing, onTree, openedBy, ringEnd, ringRequest, treeRequest}
-use Rattle.log_rules.specs.Lines.{lineLimit, linesOf}
+use Rattle.log_rules.specs.Lines.{lineLimit, linesOf, split}
 use Rattle.log_rules.specs.Output.{linesTold, outputOf}
 use Rattle.log_rules.specs.Theorems.{LinesOf}
 use Rattle.decimal.specs.Bytes.{bytes}
@@ -188,19 +190,27 @@ nothing-told : linesTold fresh 1 [] ≡ bytes "(no 1 10)\n"
 unfolding linesTold decimal digits
 nothing-told = refl
 
+-- the lines after the first of at most so many
+few-later :
+    (n k : ℕ) (read : List (List ℕ)) (l : List ℕ) (ls : List (List ℕ)) → length read ≡ min n k → read ≡ l ∷ ls → length ls < n
+few-later n k read l ls h e = omega (arith, ap length e)
+
+few-read : (s l : List ℕ) (ls : List (List ℕ)) → linesOf s ≡ l ∷ ls → length ls < lineLimit
+few-read s l ls e = few-later 1000000 (length (split [] s)) (linesOf s) l ls (lines-read .many s) e
+
 told-by :
-    (s l : List ℕ) (ls : List (List ℕ)) → outputOf s ≡ linesTold fresh 1 (l ∷ ls) → {s′ : List ℕ} → LinesOf s′ ls → (a : StartAsk) → FirstAsks l a
+    (s l : List ℕ) (ls : List (List ℕ)) → length ls < lineLimit → outputOf s ≡ linesTold fresh 1 (l ∷ ls) → {s′ : List ℕ} → LinesOf s′ ls → (a : StartAsk) → FirstAsks l a
     → (v : Verdict) → firstVerdict a ≡ v → LogBy s ls a v
-told-by s l ls o c a f (Refused x) e = refused s l ls o f e
-told-by s l ls o c (ring-start n active black) f Accepted e =
+told-by s l ls few o c a f (Refused x) e = refused s l ls o f e
+told-by s l ls few o c (ring-start n active black) f Accepted e =
     let w = each-asks ring-reads c in
     ring-log n (flagsTo active black n) (ring-accepted n active black e) s ls (accepted s l ls o f e) (w .0) (w .1)
-told-by s l ls o c (tree-start n root) f Accepted e =
+told-by s l ls few o c (tree-start n root) f Accepted e =
     let w = each-asks tree-reads c in tree-log n root (tree-accepted n root e) s ls (accepted s l ls o f e) (w .0) (w .1)
-told-by s l ls o c (update-start u n active black) f Accepted e =
+told-by s l ls few o c (update-start u n active black) f Accepted e =
     let w = each-asks update-reads c in
-    update-log u n (flagsTo active black n) (update-accepted u n active black e) (w .1) s (accepted s l ls o f e)
-told-by s l ls o c no-start f Accepted e = not-both e refl
+    update-log u n (flagsTo active black n) (update-accepted u n active black e) (w .1) s few (accepted s l ls o f e)
+told-by s l ls few o c no-start f Accepted e = not-both e refl
 
 pub whole-log : WholeLog
 whole-log s = record {
@@ -209,5 +219,5 @@ whole-log s = record {
       let read = subst (λ (ts : List (List ℕ)). (s′ : List ℕ) × LinesOf s′ ts) e (read-lines s) in
       let first = log-runs .first-asks (read .1) in
       let output = lines-read .output s ∙ ap (linesTold fresh 1) e in
-      (first .0, first .1, told-by s l ls output (later-lines (read .1) .1) (first .0) (first .1) (firstVerdict (first .0)) refl);
+      (first .0, first .1, told-by s l ls (few-read s l ls e) output (later-lines (read .1) .1) (first .0) (first .1) (firstVerdict (first .0)) refl);
 }

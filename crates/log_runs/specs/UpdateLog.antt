@@ -8,7 +8,6 @@ use mathlib.Core.Logic.{_↔_, _≢_, _⊎_}
 use mathlib.Core.Path.{_≡_}
 use Rattle.forms.specs.Form.{Says, announce, update}
 use Rattle.log_rules.specs.Answers.{answerText, tableEnd}
-use Rattle.log_rules.specs.Lines.{lineLimit}
 use Rattle.log_rules.specs.Output.{outputOf}
 use Rattle.refusal.specs.Table.{codeOf}
 use Rattle.refusal.specs.declared.Verdict.the-variants.{Accepted}
@@ -113,8 +112,8 @@ pub record UpdateLog (s : List ℕ) (lines : List (List ℕ)) (n : ℕ) (first :
       (i u m : ℕ) (active black : List ℕ) → getD asks i no-step ≡ request (start u m active black) → knownBy m active black ≡ true
       → verdictAt updates (tableBegun first) asks i
       ≡ verdictOn (tableAt first asks i) (Start u m (flagsTo active black m))
-  -- no line is answered with 9: each of the first 1,000,000 comes too early, and no other is answered
-  pub below-limit : (i : ℕ) → 2 + i ≤ lineLimit → codeOf (verdictAt updates (tableBegun first) asks i) ≢ 9
+  -- no line is answered with 9
+  pub below-limit : (i : ℕ) → codeOf (verdictAt updates (tableBegun first) asks i) ≢ 9
   -- `(update u (announce))` is answered with ok only if every node of u is passive and no message of u is in transit, counted from u's latest start
   -- and the steps of u accepted since
   pub quiet : (u i : ℕ) → AnnouncedAt first asks lines u i → QuietAt first asks u i

@@ -1,7 +1,7 @@
 -- The limit of sends, counted over a table's run. Assumes nothing.
 use Prim.Native.Nat.{_+_, _<_, _≤_, ℕ}
-use mathlib.Core.Bool.{false, true}
 use lib.ListN.{length}
+use mathlib.Core.Bool.{false, true}
 use mathlib.Core.List.{List, [], _∷_}
 use mathlib.Core.Logic.{_↔_}
 use mathlib.Core.Path.{_∙_, _≡_, ap, refl, subst, sym}
@@ -162,4 +162,13 @@ far ls a e = go ls (let w = limit-of-each .only (runOf table emptyTable ls) (run
         )
 
 pub limit-counted : LimitCounted
-limit-counted = record { counted = λ t ok u ls. counted t ok ls u; only = only; from-start = since; below = λ t ok u ls e h x q. let w = since t ok u ls e x q in omega (arith, w .1); far = far; decides = λ t ok u ls r. decides t ok ls u r }
+limit-counted =
+    record {
+      counted = λ t ok u ls. counted t ok ls u;
+      only = only;
+      fresh = λ t u ls. fresh-none u t ls;
+      from-start = since;
+      below = λ t ok u ls e h x q. let w = since t ok u ls e x q in omega (arith, w .1);
+      far = far;
+      decides = λ t ok u ls r. decides t ok ls u r;
+    }

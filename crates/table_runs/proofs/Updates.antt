@@ -1,11 +1,10 @@
 -- One request to a table, and what it says of update u. Assumes nothing.
 use Prim.Native.Nat.{_<_, ℕ}
-use borrow.Author.Tests.{eq-eqb, eqb-false, eqb-true}
+use borrow.Author.Tests.{eqb-false, eqb-true}
 use lib.Dec.{eqb}
-use mathlib.Core.Bool.{Bool, _&&_, and-false, cond, false, true}
-use mathlib.Core.List.{List, [], _++_, _∷_, append-assoc, append-nil}
+use mathlib.Core.Bool.{Bool, _&&_, cond, false, true}
+use mathlib.Core.List.{List, [], _++_, _∷_, append-nil}
 use mathlib.Core.Path.{_∙_, _≡_, ap, ap₂, refl, subst, sym}
-use Rattle.laws.proofs.Tests.{neither}
 use Rattle.refusal.proofs.Table.{accepts, none-holds}
 use Rattle.refusal.specs.Table.{NoneHolds, also, firstOf, isAccepted, settle}
 use Rattle.refusal.specs.declared.Refusal.the-variants.{UnknownUpdate}
@@ -23,12 +22,12 @@ use Rattle.table_rules.proofs.Keeps.{next-other, next-own, next-sound, taken}
 use Rattle.table_rules.proofs.Limit.{ring-verdict}
 use Rattle.table_rules.proofs.Slots.{never-started, put-other, put-same, same-state}
 use Rattle.table_rules.proofs.Soundness.{true-table}
-use Rattle.table_rules.specs.Answers.{Ask, Start, Step, after, answerOn, nextTable, rowsOf, slotAfter, verdictOn}
+use Rattle.table_rules.specs.Answers.{Ask, Start, Step, after, nextTable, rowsOf, slotAfter, verdictOn}
 use Rattle.table_rules.specs.Runs.{table}
 use Rattle.table_rules.specs.Soundness.{SoundTable}
 use Rattle.table_rules.specs.Table.{NotStarted, Slot, Started, Table, slotAt}
-use Rattle.table_runs.specs.Counts.{AcceptsOn, Heard, History, begun, heardBy, heardFrom, heardNext, heardOf, historyIn, historyNext, historyOf, nothing, ringAnswers, startedOf, startsIn, stepAnswers, stepsIn}
-use Rattle.table_runs.specs.WholeRun.{FollowsRing, OneOfTwo, StepsAreRun, announcement, token-moves}
+use Rattle.table_runs.specs.Counts.{AcceptsOn, Heard, History, begun, heardFrom, heardNext, heardOf, historyIn, historyNext, historyOf, nothing, ringAnswers}
+use Rattle.table_runs.specs.WholeRun.{OneOfTwo, announcement, token-moves}
 
 -- ---- a step of a started update
 
@@ -123,7 +122,7 @@ settle-taking : (v : Verdict) (h : History) (x : Request) → settle v (taking h
 settle-taking Accepted h x = refl
 settle-taking (Refused e) h x = refl
 
-abbrev hearing : Heard → Request → Verdict → Heard
+abbrev pub hearing : Heard → Request → Verdict → Heard
 hearing w x v = record { steps = w .steps ++ (x ∷ []); answers = w .answers ++ (v ∷ []) }
 
 module _ (t : Table) (ok : SoundTable t) (u : ℕ) (h : History) (w : Heard) (p : Told (slotAt t u) h w) (x : Request) where
@@ -222,84 +221,3 @@ unfolding runOf acceptedOf ringAnswers
 told-of u t ok ls =
     told-run u ls t ok (begun (slotAt t u)) nothing
     (record { none = λ e. (e, refl); some = λ r e. record { sound = ok .each u r e; stands = e; answers = refl; accepted = refl } })
-
--- ---- what is heard in further requests
-
-pub heard-append : (u : ℕ) (ls bs : List Ask) (t : Table) (w : Heard) → heardFrom u w t (ls ++ bs) ≡ heardFrom u (heardFrom u w t ls) (runOf table t ls) bs
-unfolding heardFrom runOf
-heard-append u [] bs t w = refl
-heard-append u (a ∷ ls) bs t w = heard-append u ls bs (nextTable t a) (heardNext u w a (verdictOn t a))
-
--- a step that is accepted is no start
-no-start : (u z : ℕ) (x : Request) (acc : List Ask) (v : Verdict) → startsIn u (settle v (Step z x ∷ acc) acc) ≡ startsIn u acc
-no-start u z x acc Accepted = refl
-no-start u z x acc (Refused e) = refl
-
--- so much heard, and then every step of u in bs
-abbrev heard-and : Heard → ℕ → Table → List Ask → Heard
-heard-and w u t bs = record { steps = w .steps ++ stepsIn u bs; answers = w .answers ++ stepAnswers u t bs }
-
--- with no start of u accepted
-pub heard-all : (u : ℕ) (bs : List Ask) (t : Table) (w : Heard) → startedOf u t bs ≡ false → heardFrom u w t bs ≡ heard-and w u t bs
-unfolding heardFrom acceptedOf stepAnswers
-heard-all u [] t w e =
-    ap₂ (λ (l : List Request) (m : List Verdict). record { steps = l; answers = m }) (sym (append-nil (w .steps))) (sym (append-nil (w .answers)))
-heard-all u (Start z n flags ∷ bs) t w e =
-    go (verdictOn t (Start z n flags)) (λ (m : Table) (f : startedOf u m bs ≡ false). heard-all u bs m w f) e
-  where
-    go :
-        (v : Verdict) → ((m : Table) → startedOf u m bs ≡ false → heardFrom u w m bs ≡ heard-and w u m bs)
-        → startsIn u
-        (settle v (Start z n flags ∷ acceptedOf table (settle v (after t (Start z n flags)) t) bs) (acceptedOf table (settle v (after t (Start z n flags)) t) bs))
-        ≡ false
-        → heardFrom u (cond (eqb z u && isAccepted v) nothing w) (settle v (after t (Start z n flags)) t) bs
-        ≡ heard-and w u (settle v (after t (Start z n flags)) t) bs
-    go Accepted ih f =
-        let p = neither (eqb z u) (startsIn u (acceptedOf table (after t (Start z n flags)) bs)) f in
-        rw (p .0) (ih (after t (Start z n flags)) (p .1))
-    go (Refused y) ih f = rw (and-false (eqb z u)) (ih t f)
-heard-all u (Step z x ∷ bs) t w e =
-    go (eqb z u)
-    (λ (h : Heard). heard-all u bs t′ h (sym (no-start u z x (acceptedOf table t′ bs) (verdictOn t (Step z x))) ∙ e))
-  where
-    t′ : Table
-    t′ = nextTable t (Step z x)
-
-    v : Verdict
-    v = verdictOn t (Step z x)
-
-    go :
-        (b : Bool) → ((h : Heard) → heardFrom u h t′ bs ≡ heard-and h u t′ bs)
-        → heardFrom u (cond b (hearing w x v) w) t′ bs
-        ≡ record {
-          steps = w .steps ++ cond b (x ∷ stepsIn u bs) (stepsIn u bs);
-          answers = w .answers ++ cond b (v ∷ stepAnswers u t′ bs) (stepAnswers u t′ bs);
-        }
-    go true ih =
-        ih (hearing w x v)
-        ∙ ap₂ (λ (l : List Request) (m : List Verdict). record { steps = l; answers = m }) (append-assoc (w .steps) (x ∷ []) (stepsIn u bs))
-        (append-assoc (w .answers) (v ∷ []) (stepAnswers u t′ bs))
-    go false ih = ih w
-
-heard-fresh :
-    (t : Table) (u n : ℕ) (flags : List ℕ) (ls bs : List Ask) → verdictOn (runOf table t ls) (Start u n flags) ≡ Accepted
-    → startedOf u (nextTable (runOf table t ls) (Start u n flags)) bs ≡ false
-    → heardOf u t (ls ++ (Start u n flags ∷ bs)) ≡ heardBy u (nextTable (runOf table t ls) (Start u n flags)) bs
-unfolding heardFrom
-heard-fresh t u n flags ls bs a e =
-    heard-append u ls (Start u n flags ∷ bs) t nothing
-    ∙ ap₂ (λ (b : Bool) (c : Bool). heardFrom u (cond (b && c) nothing (heardOf u t ls)) (nextTable (runOf table t ls) (Start u n flags)) bs)
-    (eq-eqb u u refl) (ap isAccepted a)
-    ∙ heard-all u bs (nextTable (runOf table t ls) (Start u n flags)) nothing e
-
-steps-follow :
-    (t : Table) → SoundTable t → (u : ℕ) (ls : List Ask) (r s : State) → historyOf u t ls .first ≡ Started r
-    → slotAt (runOf table t ls) u ≡ Started s → FollowsRing t u ls r s
-steps-follow t ok u ls r s e at =
-    let f = told-of u t ok ls .some r e in
-    record { state = same-state (sym at ∙ f .stands); answers = f .answers; accepted = f .accepted }
-
-pub steps-are-run : StepsAreRun
-unfolding answerOn
-steps-are-run =
-    record { from-first = λ t u ls e. heard-all u ls t nothing e; from-start = heard-fresh; follows = steps-follow }

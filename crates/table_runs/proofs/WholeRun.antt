@@ -52,7 +52,7 @@ history-append u [] more h = refl
 history-append u (a ∷ acc) more h = history-append u acc more (historyNext u h a)
 
 module _ (t : Table) (u : ℕ) (ls : List Ask) where
-  history-here : startedOf u t ls ≡ false → historyOf u t ls ≡ record { first = slotAt t u; taken = takenOf u t ls }
+  pub history-here : startedOf u t ls ≡ false → historyOf u t ls ≡ record { first = slotAt t u; taken = takenOf u t ls }
   history-here e = history-on u (acceptedOf table t ls) (begun (slotAt t u)) e
 
   history-further :

@@ -16,7 +16,7 @@ use Rattle.table_rules.specs.Answers.{Ask, Start, Step, nextTable, verdictOn}
 use Rattle.table_rules.specs.Runs.{table}
 use Rattle.table_rules.specs.Table.{Slot, Started, Table, sendsOf, slotAt}
 
--- ---- what a list of accepted requests says of update u
+-- ---- what a list of requests says of update u; the accepted ones, where starts are counted
 
 abbrev pub startsIn : ℕ → List Ask → Bool
 startsIn u [] = false
@@ -96,7 +96,7 @@ heardFrom u h t (a ∷ ls) = heardFrom u (heardNext u h a (verdictOn t a)) (next
 abbrev pub heardOf : ℕ → Table → List Ask → Heard
 heardOf u t ls = heardFrom u nothing t ls
 
--- the same from a list of requests alone, where u is not started in it: every step that names u, and the table's answers to these
+-- the same where no start of u is accepted: every step that names u in the list, and the answers to these of the table that it begins at
 unfoldable pub stepAnswers : ℕ → Table → List Ask → List Verdict
 stepAnswers u t [] = []
 stepAnswers u t (Start v n flags ∷ ls) = stepAnswers u (nextTable t (Start v n flags)) ls

@@ -10,6 +10,7 @@ use Rattle.refusal.specs.Table.{codeOf, sendLimit}
 use Rattle.refusal.specs.declared.Verdict.the-variants.{Accepted}
 use Rattle.ring_rules.specs.Rules.{Announce, Send}
 use Rattle.ring_rules.specs.Soundness.{Open}
+use Rattle.ring_rules.specs.Start.{firstState}
 use Rattle.ring_rules.specs.State.{State, activeAt, pendingAt, receivedAt}
 use Rattle.ring_rules.specs.Theorems.{TokenMove}
 use Rattle.ring_runs.specs.Counts.{AllMoves, announcedIn, kind, ring, sendsIn, sendsTo, takesBy}
@@ -18,7 +19,7 @@ use Rattle.table_rules.specs.Answers.{Ask, Start, Step, answerOn, verdictOn}
 use Rattle.table_rules.specs.Runs.{table}
 use Rattle.table_rules.specs.Soundness.{SoundTable}
 use Rattle.table_rules.specs.Table.{NotStarted, Started, Table, emptyTable, sendsOf, slotAt}
-use Rattle.table_runs.specs.Counts.{AcceptsOn, QuietIn, activeIn, heardBy, heardOf, historyOf, ringAnswers, sendsSince, startedOf, takenOf, transitIn}
+use Rattle.table_runs.specs.Counts.{AcceptsOn, QuietIn, activeIn, heardBy, heardOf, historyOf, ringAnswers, sendsSince, startedOf, stepAnswers, stepsIn, takenOf, transitIn}
 
 -- What the table accepts next, of all steps of u: one token move at least and token moves alone, or announcements alone and all of them.
 pub data OneOfTwo (t : Table) (u : ℕ) : Type 0 where
@@ -94,15 +95,22 @@ pub record WholeTable : Type 0 where
   -- A request answers as the machine does, so that the claim is about the code that meets `answerOn`.
   pub answers : (t : Table) (a : Ask) → answerOn t a ≡ record { verdict = table .verdict t a; table = next table t a }
 
--- The steps of u of which `FollowsRing` speaks are every step that names u since its latest accepted start, or since the first table, with the
--- table's answers to these, from the list of requests alone.
+-- The requests that name u since its latest start ARE the run of its ring, all of them.
 pub record StepsAreRun : Type 0 where
+  -- after an accepted start of u, whatever came before it: what stands at u, and the table's answers to the steps that name u, are those of the
+  -- ring's run over these steps from that start's state
+  pub run :
+      (t : Table) → SoundTable t → (u n : ℕ) (flags : List ℕ) (ls bs : List Ask) → verdictOn (runOf table t ls) (Start u n flags) ≡ Accepted
+      → startedOf u (answerOn (runOf table t ls) (Start u n flags) .table) bs ≡ false
+      → (slotAt (runOf table t (ls ++ (Start u n flags ∷ bs))) u ≡ Started (runOf ring (firstState n flags) (stepsIn u bs)))
+      × (stepAnswers u (answerOn (runOf table t ls) (Start u n flags) .table) bs ≡ ringAnswers (firstState n flags) (stepsIn u bs))
+  -- the steps of u of which `FollowsRing` speaks are these, from that start or from the first table
   pub from-first : (t : Table) (u : ℕ) (ls : List Ask) → startedOf u t ls ≡ false → heardOf u t ls ≡ heardBy u t ls
   pub from-start :
       (t : Table) (u n : ℕ) (flags : List ℕ) (ls bs : List Ask) → verdictOn (runOf table t ls) (Start u n flags) ≡ Accepted
       → startedOf u (answerOn (runOf table t ls) (Start u n flags) .table) bs ≡ false
       → heardOf u t (ls ++ (Start u n flags ∷ bs)) ≡ heardBy u (answerOn (runOf table t ls) (Start u n flags) .table) bs
-  -- and they are a run of the ring from what stood there then, announced or not, to what stands there now
+  -- they are a run of the ring from what stood there then, announced or not, to what stands there now
   pub follows :
       (t : Table) → SoundTable t → (u : ℕ) (ls : List Ask) (r s : State) → historyOf u t ls .first ≡ Started r
       → slotAt (runOf table t ls) u ≡ Started s → FollowsRing t u ls r s
@@ -115,14 +123,15 @@ pub record LimitCounted : Type 0 where
       (t : Table) → SoundTable t → (ls : List Ask) (a : Ask) → codeOf (verdictOn (runOf table t ls) a) ≡ 9
       → (u : ℕ) × (x : Request) × (r : State) × (a ≡ Step u x) × (kind x ≡ Send) × (historyOf u t ls .first ≡ Started r)
       × (sendsSince (historyOf u t ls) ≡ sendLimit)
-  -- since a start in the run exactly so many sends of u are accepted by then, and with fewer nothing of u meets 9
+  -- since a start in the run the sends of u accepted since then are all: 9 comes with exactly so many, and with fewer no step of u meets it
+  pub fresh : (t : Table) (u : ℕ) (ls : List Ask) → startedOf u t ls ≡ true → sendsSince (historyOf u t ls) ≡ sendsIn (historyOf u t ls .taken)
   pub from-start :
       (t : Table) → SoundTable t → (u : ℕ) (ls : List Ask) → startedOf u t ls ≡ true → (x : Request)
       → codeOf (verdictOn (runOf table t ls) (Step u x)) ≡ 9 → (kind x ≡ Send) × (sendsIn (historyOf u t ls .taken) ≡ sendLimit)
   pub below :
       (t : Table) → SoundTable t → (u : ℕ) (ls : List Ask) → startedOf u t ls ≡ true → sendsIn (historyOf u t ls .taken) < sendLimit
       → (x : Request) → codeOf (verdictOn (runOf table t ls) (Step u x)) ≢ 9
-  -- from the empty table more than 1,000,000 requests come before it, a start among them: more than the lines of a log
+  -- from the empty table more than 1,000,000 requests come before it: more than a log can make
   pub far : (ls : List Ask) (a : Ask) → codeOf (verdictOn (runOf table emptyTable ls) a) ≡ 9 → sendLimit < length ls
   -- a send of u from an active node, to any node, before u's announcement, is accepted exactly if u has made fewer, and meets 9 exactly
   -- if it has made so many
