@@ -3,6 +3,7 @@ pub mod Runs
 pub mod Detectors
 pub mod Updates
 pub mod Theorems
+pub mod UpdateParts
 pub mod UpdateLog
 pub mod WholeLog
 pub mod Listing

@@ -8,17 +8,16 @@ use mathlib.Core.Bool.{Bool, _&&_, _||_, cond, false, not, true}
 use mathlib.Core.List.{List, [], _++_, _∷_, map}
 use mathlib.Core.Logic.{_↔_, _≢_, _⊎_, inl, inr}
 use mathlib.Core.Path.{_∙_, _≡_, ap, refl, subst, sym}
-use native.Mathlib.Nat.{add-suc, add-zero}
 use native.Mathlib.Decide.{decLt}
 use native.Mathlib.Omega.{arith}
-use Rattle.forms.specs.Form.{Form, Says, announce, update}
+use Rattle.forms.specs.Form.{Says, announce, update}
 use Rattle.laws.proofs.Tests.{false-true, left-true, right-true}
 use Rattle.log_rules.specs.Answers.{Stage, answerText, endText, noMoves, onTable, ringRequest, tableEnd}
 use Rattle.log_rules.specs.Lines.{lineLimit}
 use Rattle.log_rules.specs.Output.{outputOf}
 use Rattle.refusal.proofs.Table.{not-both}
-use Rattle.refusal.specs.Table.{_⟶_, codeOf, firstOf, isAccepted, settle}
-use Rattle.refusal.specs.declared.Refusal.the-variants.{NodeCount, UnknownNode, UnknownUpdate}
+use Rattle.refusal.specs.Table.{codeOf, isAccepted, settle}
+use Rattle.refusal.specs.declared.Refusal.the-variants.{UnknownNode}
 use Rattle.refusal.specs.declared.Verdict.{Verdict}
 use Rattle.refusal.specs.declared.Verdict.the-variants.{Accepted, Refused}
 use Rattle.ring_rules.specs.Start.{firstState}
@@ -31,6 +30,7 @@ use Rattle.ring_runs.specs.Agreement.{Reachable, sendsMade, shown}
 use Rattle.ring_runs.specs.Counts.{announcedIn, isAnnounce, kind, ring}
 use Rattle.runs.proofs.Runs.{accepted-append, run-append, run-of}
 use Rattle.runs.specs.Runs.{Request, acceptedOf, runOf}
+use Rattle.table_rules.proofs.Limit.{no-nine}
 use Rattle.table_rules.proofs.Slots.{never-started, same-state}
 use Rattle.table_rules.proofs.Soundness.{empty-fixed, empty-sound}
 use Rattle.table_rules.proofs.Theorems.{table-kept, table-numbers}
@@ -44,113 +44,19 @@ use Rattle.table_runs.proofs.Updates.{unknown-step}
 use Rattle.table_runs.proofs.WholeRun.{history-append, history-on, whole-table}
 use Rattle.table_runs.specs.Counts.{AcceptsOn, History, QuietIn, begun, historyIn, historyNext, historyOf, startedOf, startsIn, stepsIn, takenOf}
 use Rattle.table_runs.specs.WholeRun.{Counted, FromStart, OneOfTwo, announcement, token-moves}
-use Rattle.log_runs.proofs.Detectors.{ring-only}
 use Rattle.log_runs.proofs.First.{asks-once, list-at, list-length, table-rows, wrapped-once}
 use Rattle.log_runs.proofs.Runs.{between, between-next, between-none, each-at, lines-printed, said-later}
+use Rattle.log_runs.proofs.UpdateParts.{announce-only, each-length, false-unless, few-asked, few-said, from, starts-append, steps-append, to-append, true-unless}
 use Rattle.log_runs.proofs.Updates.{moves-history, moves-length, update-answers, update-each, update-reads, update-requests}
 use Rattle.log_runs.specs.Answered.{answers, said, verdictAt}
 use Rattle.log_runs.specs.First.{flagsTo, inRange, knownBy, updateVerdict}
-use Rattle.log_runs.specs.Says.{Ask, Each, cut, line, listTo, movesIn, no-line, no-step, other, printed, request, requestsIn, says, stageAfter}
+use Rattle.log_runs.specs.Says.{Ask, Each, listTo, movesIn, no-step, printed, request, requestsIn, says, stageAfter}
 use Rattle.log_runs.specs.UpdateLog.{AnnouncedAt, LineOk, NoAnnouncement, NoStart, OpenAt, QuietAt, StartedAt, UpdateCountsDown, UpdateLog, made, movesAt, tableAt, tableBegun}
 use Rattle.log_runs.specs.Updates.{UpdateAsk, UpdateAsks, movesAfter, oksOf, start, step, stepsOn, tableAsk, toTable, updates, verdictOf}
 use Rattle.forms.specs.declared.RingStep.the-variants as ringStep
 use Rattle.table_rules.specs.Answers as asks
 use Rattle.update_forms.specs.Wrapped as wrapped
 use Rattle.log_runs.specs.Answered as answered
-
--- a start is never 9
-no-nine : (a b c d : Bool) → codeOf (firstOf ((a ⟶ UnknownUpdate) ∷ (b ⟶ NodeCount) ∷ (c ⟶ NodeCount) ∷ (d ⟶ UnknownNode) ∷ [])) ≢ 9
-no-nine true b c d e = omega arith
-no-nine false true c d e = omega arith
-no-nine false false true d e = omega arith
-no-nine false false false true e = omega arith
-no-nine false false false false e = omega arith
-
-each-length : {R : Type 0} {P : List ℕ → Ask R → Type 0} {ls : List (List ℕ)} {qs : List (Ask R)} → Each P ls qs → length qs ≡ length ls
-each-length no-line = refl
-each-length (line p c) = omega (arith, each-length c)
-
--- no more requests than lines
-few-asked : (xs : List UpdateAsk) → length (toTable xs) ≤ length xs
-few-asked [] = omega arith
-few-asked (step u x ∷ xs) = omega (arith, few-asked xs)
-few-asked (start u n a b ∷ xs) = go (knownBy n a b) (few-asked xs)
-  where
-    go :
-        (k : Bool) → length (toTable xs) ≤ length xs
-        → length (cond k (Start u n (flagsTo a b n) ∷ toTable xs) (toTable xs)) ≤ length (start u n a b ∷ xs)
-    go true h = omega arith
-    go false h = omega arith
-
-few-said : (qs : List (Ask UpdateAsk)) (i : ℕ) → length (said qs i) ≤ i
-few-said [] zero = omega arith
-few-said [] (suc i) = omega arith
-few-said (q ∷ qs) zero = omega arith
-few-said (request x ∷ qs) (suc i) = omega (arith, few-said qs i)
-few-said (no-step ∷ qs) (suc i) = omega (arith, few-said qs i)
-
-true-unless : {b : Bool} → (b ≡ false → ⊥) → b ≡ true
-true-unless {b = true} bad = refl
-true-unless {b = false} bad = absurd (bad refl)
-
-false-unless : {b : Bool} → (b ≡ true → ⊥) → b ≡ false
-false-unless {b = true} bad = absurd (bad refl)
-false-unless {b = false} bad = refl
-
--- ---- lists
-
-to-append : (xs ys : List UpdateAsk) → toTable (xs ++ ys) ≡ toTable xs ++ toTable ys
-to-append [] ys = refl
-to-append (step u x ∷ xs) ys = ap (λ (l : List asks.Ask). Step u x ∷ l) (to-append xs ys)
-to-append (start u n a b ∷ xs) ys = go (knownBy n a b) (to-append xs ys)
-  where
-    go : (k : Bool) → toTable (xs ++ ys) ≡ toTable xs ++ toTable ys
-        → cond k (Start u n (flagsTo a b n) ∷ toTable (xs ++ ys)) (toTable (xs ++ ys))
-        ≡ cond k (Start u n (flagsTo a b n) ∷ toTable xs) (toTable xs) ++ toTable ys
-    go true e = ap (λ (l : List asks.Ask). Start u n (flagsTo a b n) ∷ l) e
-    go false e = e
-
-or-same : (a b c : Bool) → (a || (b || c)) ≡ ((a || b) || c)
-or-same true b c = refl
-or-same false b c = refl
-
-starts-append : (u : ℕ) (acc more : List asks.Ask) → startsIn u (acc ++ more) ≡ (startsIn u acc || startsIn u more)
-starts-append u [] more = refl
-starts-append u (Start v n flags ∷ acc) more = rw (starts-append u acc more) (or-same (eqb v u) (startsIn u acc) (startsIn u more))
-starts-append u (Step v x ∷ acc) more = starts-append u acc more
-
-steps-append : (u : ℕ) (acc more : List asks.Ask) → stepsIn u (acc ++ more) ≡ stepsIn u acc ++ stepsIn u more
-steps-append u [] more = refl
-steps-append u (Start v n flags ∷ acc) more = steps-append u acc more
-steps-append u (Step v x ∷ acc) more = rw (steps-append u acc more) (go (eqb v u))
-  where
-    go : (b : Bool)
-        → cond b (x ∷ (stepsIn u acc ++ stepsIn u more)) (stepsIn u acc ++ stepsIn u more)
-        ≡ cond b (x ∷ stepsIn u acc) (stepsIn u acc) ++ stepsIn u more
-    go true = refl
-    go false = refl
-
--- from i on
-from : {i : ℕ} (P : ℕ → Type 0) → P i → ((j : ℕ) → i ≤ j → P j → P (suc j)) → (j : ℕ) → i ≤ j → P j
-from {i} P b s j h = let e : i + (j - i) ≡ j = omega arith in subst P e (go (j - i))
-  where
-    go : (d : ℕ) → P (i + d)
-    go zero = subst P (sym (add-zero i)) b
-    go (suc d) = subst P (sym (add-suc i d)) (s (i + d) (omega arith) (go d))
-
--- a line that asks for an announcement of u is `(update u (announce))`
-announce-only :
-    {l : List ℕ} {q : Ask UpdateAsk} {u : ℕ} {x : Request} → UpdateAsks l q → q ≡ request (step u x) → isAnnounce (kind x) ≡ true
-    → Says l (update u announce)
-announce-only {l} {u = u} {x = x} (says (wrapped.step w f) s) e y =
-    let at : w ≡ u = cc in
-    let same : ringRequest f ≡ x = cc in
-    subst (λ (k : ℕ). Says l (update k announce)) at
-    (subst (λ (g : Form). Says l (update w g)) (ring-only f (ap (λ (z : Request). isAnnounce (kind z)) same ∙ y)) s)
-announce-only (says (wrapped.bare w n) s) e y = absurd (let z : _≡_ {A = ℕ} 0 1 = cc in let w : ⊥ = omega arith in w)
-announce-only (says (wrapped.lists w n a b) s) e y = absurd (let z : _≡_ {A = ℕ} 0 1 = cc in let w : ⊥ = omega arith in w)
-announce-only (other o h) e y = absurd (let z : _≡_ {A = ℕ} 0 1 = cc in let w : ⊥ = omega arith in w)
-announce-only (cut u) e y = absurd (let z : _≡_ {A = ℕ} 0 1 = cc in let w : ⊥ = omega arith in w)
 
 -- ---- the lines of a log whose first line started an update
 
@@ -624,7 +530,7 @@ module _
           let f = limit-counted .far (made first qs i) (Step u x) (ap (λ (t : Table). codeOf (verdictOn t (Step u x))) (sym (judged i)) ∙ e) in
           omega (arith, few-asked (said qs i), few-said qs i)
       go (request (start u m a b)) e =
-          no-nine (not (ltb u 8)) (otherNodes (here i) m) (not (inRange 96 m)) (not (knownBy m a b)) e
+          no-nine UnknownNode (λ z. omega arith) (not (ltb u 8)) (otherNodes (here i) m) (not (inRange 96 m)) (not (knownBy m a b)) e
       go no-step e = omega arith
 
   -- of so few lines

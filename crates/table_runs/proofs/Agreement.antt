@@ -25,6 +25,7 @@ use Rattle.ring_runs.specs.View.{Action, InARow, varsOf}
 use Rattle.runs.proofs.Runs.{run-of}
 use Rattle.runs.specs.Runs.{Accepts, Request, acceptedOf, next, runOf}
 use Rattle.table_rules.proofs.Keeps.{next-other, next-sound}
+use Rattle.table_rules.proofs.Limit.{ring-verdict}
 use Rattle.table_rules.proofs.Slots.{same-state}
 use Rattle.table_rules.proofs.Soundness.{empty-fixed, empty-sound}
 use Rattle.table_rules.proofs.Theorems.{accepted-table, table-answered, table-numbers}
@@ -32,7 +33,7 @@ use Rattle.table_rules.specs.Answers.{Ask, Start, Step, after, answerOn, nextTa
 use Rattle.table_rules.specs.Runs.{table}
 use Rattle.table_rules.specs.Soundness.{SoundTable}
 use Rattle.table_rules.specs.Table.{Started, Table, emptyTable, fixed, slotAt}
-use Rattle.table_runs.proofs.Updates.{as-ring, ring-accepts, ring-next, start-begins, start-stands, table-accepts, told-of}
+use Rattle.table_runs.proofs.Updates.{ring-accepts, ring-next, start-begins, start-stands, table-accepts, told-of}
 use Rattle.table_runs.proofs.WholeRun.{latest}
 use Rattle.table_runs.specs.Agreement.{NextAnswered, OthersAlone, RunTo, RunsAgree, StartsAgree, StepsAgree, at-limit, matched, ringAfter, shownAfter, someNode, stepsOn}
 use Rattle.table_runs.specs.Counts.{AcceptsOn, heardOf, historyOf, startedOf}
@@ -94,7 +95,7 @@ module _ (t : Table) (ok : SoundTable t) (u : ℕ) (r : State) (at : slotAt t u 
           matched x c (ring-shown x c ∙ e)
       go (at-limit-ring i b h e) =
           let l = ok .each u r at .limit in
-          at-limit i b (omega arith) (as-ring t ok u r at (send (i .nr) (b .j .nr)) ∙ e)
+          at-limit i b (omega arith) (ring-verdict t ok u r at (send (i .nr) (b .j .nr)) ∙ e)
 
   refused-same : (x : Request) → (AcceptsOn t u x → ⊥) → answerOn t (Step u x) .table ≡ t
   refused-same x ne = go (verdictOn t (Step u x)) refl
@@ -214,7 +215,7 @@ all-accepted u (x ∷ xs) t ok r at e =
     let p = all-first r x xs e in
     let a = table-accepts t ok u r at x (p .0) in
     let here : slotAt (nextTable t (Step u x)) u ≡ Started (next ring r x) =
-    ring-next t ok u r at x ∙ ap (λ (v : Verdict). Started (settle v (ring .effect r x) r)) (as-ring t ok u r at x) in
+    ring-next t ok u r at x ∙ ap (λ (v : Verdict). Started (settle v (ring .effect r x) r)) (ring-verdict t ok u r at x) in
     let w = all-accepted u xs (nextTable t (Step u x)) (next-sound t (Step u x) ok) (next ring r x) here (p .1) in
     (ap₂ (λ (v : Verdict) (l : List Ask). settle v (Step u x ∷ l) l) a (w .0), w .1)
 

@@ -1,5 +1,5 @@
 -- One request to a table, and what it says of update u. Assumes nothing.
-use Prim.Native.Nat.{_<_, ℕ}
+use Prim.Native.Nat.{ℕ}
 use borrow.Author.Tests.{eqb-false, eqb-true}
 use lib.Dec.{eqb}
 use mathlib.Core.Bool.{Bool, _&&_, cond, false, true}
@@ -18,9 +18,9 @@ use Rattle.ring_runs.specs.Counts.{ring}
 use Rattle.ring_runs.specs.WholeRun.{announcement as announcement-ring, OneOfTwo as OneOfTwoRing, token-moves as token-moves-ring}
 use Rattle.runs.proofs.Runs.{accepted-append, run-append}
 use Rattle.runs.specs.Runs.{Accepts, Request, acceptedOf, next, runOf}
-use Rattle.table_rules.proofs.Keeps.{next-other, next-own, next-sound, taken}
+use Rattle.table_rules.proofs.Keeps.{after-own, next-other, next-own, next-sound}
 use Rattle.table_rules.proofs.Limit.{ring-verdict}
-use Rattle.table_rules.proofs.Slots.{never-started, put-other, put-same, same-state}
+use Rattle.table_rules.proofs.Slots.{never-started, put-other, same-state}
 use Rattle.table_rules.proofs.Soundness.{true-table}
 use Rattle.table_rules.specs.Answers.{Ask, Start, Step, after, nextTable, rowsOf, slotAfter, verdictOn}
 use Rattle.table_rules.specs.Runs.{table}
@@ -40,15 +40,11 @@ settle-started Accepted r s = refl
 settle-started (Refused e) r s = refl
 
 module _ (t : Table) (ok : SoundTable t) (u : ℕ) (r : State) (at : slotAt t u ≡ Started r) where
-  -- the table's verdict is the ring's
-  pub as-ring : (x : Request) → verdictOn t (Step u x) ≡ ring .verdict r x
-  as-ring x = ring-verdict t ok u r at x
-
   pub ring-accepts : (x : Request) → AcceptsOn t u x → Accepts ring r x
-  ring-accepts x a = sym (as-ring x) ∙ a
+  ring-accepts x a = sym (ring-verdict t ok u r at x) ∙ a
 
   pub table-accepts : (x : Request) → Accepts ring r x → AcceptsOn t u x
-  table-accepts x a = as-ring x ∙ a
+  table-accepts x a = ring-verdict t ok u r at x ∙ a
 
   pub one-of-two : OneOfTwoRing r → OneOfTwo t u
   one-of-two (token-moves-ring x a f) = token-moves x (table-accepts x a) (λ y b. f y (ring-accepts y b))
@@ -78,9 +74,7 @@ start-first n flags e = first-open n flags (fits n flags e)
 
 pub start-stands :
     (t : Table) (u n : ℕ) (flags : List ℕ) → verdictOn t (Start u n flags) ≡ Accepted → slotAt (after t (Start u n flags)) u ≡ Started (firstState n flags)
-start-stands t u n flags e =
-    let c = taken t (Start u n flags) e .changed in
-    put-same t u (Started (firstState n flags)) (subst (λ (m : ℕ). u < m) (sym (c .before .places)) (c .inside))
+start-stands t u n flags e = after-own t (Start u n flags) e
 
 -- ---- what stands at an update, its history and what was heard of it
 
@@ -133,7 +127,7 @@ module _ (t : Table) (ok : SoundTable t) (u : ℕ) (h : History) (w : Heard) (p 
   judged : (r : State) → h .first ≡ Started r → Told (slotAt (nextTable t (Step u x)) u) (settle v (taking h x) h) (hearing w x v)
   judged r e =
       let f = p .some r e in
-      let b = as-ring t ok u _ (f .stands) x in
+      let b = ring-verdict t ok u _ (f .stands) x in
       let m = heard-more r (w .steps) x v b in
       rw (settle-taking v h x)
       (record {
