@@ -49,6 +49,15 @@ pub struct OwnAsked {
     pub announced: Option<usize>,
 }
 
+/// Starts of rings without lists.
+pub struct UnlistedAsked {
+    /// Accepted; and as many with both lists empty.
+    pub starts: usize,
+    pub announced: usize,
+    /// Logs whose answers are others by each wrong reading of such a start.
+    pub told: usize,
+}
+
 /// What one detector's lines after the first have to meet, on all sizes or on the large ones.
 pub struct Met {
     /// Each kind of step but announce, accepted.
@@ -66,7 +75,10 @@ pub struct Met {
 
 /// Of the logs by seed.
 pub mod logs {
-    use super::{asked, ring, tree, Asked, Met, OwnAsked, TakesAsked, LARGE_RINGS, LARGE_TREES};
+    use super::{
+        asked, ring, tree, Asked, Met, OwnAsked, TakesAsked, UnlistedAsked, LARGE_RINGS,
+        LARGE_TREES,
+    };
 
     pub const ON_ALL: Met = Met {
         kind: 10_000,
@@ -132,6 +144,11 @@ pub mod logs {
         alone: None,
         announced: None,
     };
+    pub const UNLISTED: UnlistedAsked = UnlistedAsked {
+        starts: 100,
+        announced: 90,
+        told: 30,
+    };
     /// Each spelling of a take.
     pub const SPELLINGS: usize = 50;
     pub const ON_RINGS: [Asked; 4] = [
@@ -164,7 +181,7 @@ pub mod logs {
 
 /// Of the logs of updates.
 pub mod updates {
-    use super::{asked, logs, Asked, OwnAsked, TakesAsked, LARGE_RINGS};
+    use super::{asked, logs, Asked, OwnAsked, TakesAsked, UnlistedAsked, LARGE_RINGS};
 
     pub const UNKNOWN_UPDATE: usize = 13;
     pub const NODE_COUNT: usize = 1;
@@ -206,6 +223,11 @@ pub mod updates {
         taken: None,
         alone: Some(1_500),
         announced: Some(300),
+    };
+    pub const UNLISTED: UnlistedAsked = UnlistedAsked {
+        starts: 3_000,
+        announced: 1_200,
+        told: 600,
     };
     /// Each spelling of a take.
     pub const SPELLINGS: usize = 50;

@@ -1,4 +1,4 @@
-//! The forms of the log's lines: paper, "The log program", and requests. A form is judged by its bytes alone.
+//! The forms of the log's lines: paper, "The log program", and requests. A form is judged by its bytes alone.
 
 use crate::decimal;
 use crate::refusal::Refusal;
@@ -10,10 +10,16 @@ pub const LINE_BYTES: usize = 700;
 /// Digits of the longest number.
 const DIGIT_LIMIT: usize = 5;
 
-/// `ring N`, with the nodes of both lists or of neither.
+/// `ring N`, with both lists or with neither.
 #[derive(Clone, Debug, PartialEq, Eq)]
 pub struct RingStart {
     pub n: usize,
+    pub lists: Option<Lists>,
+}
+
+/// The nodes that a start names.
+#[derive(Clone, Debug, PartialEq, Eq)]
+pub struct Lists {
     pub active: Vec<usize>,
     pub black: Vec<usize>,
 }
@@ -40,8 +46,12 @@ impl RingStart {
         if !(1..=MAX_NODES).contains(&self.n) {
             return Err(Refusal::NodeCount);
         }
+        let Some(lists) = &self.lists else {
+            // Without lists all nodes are active and white.
+            return Ok(vec![1; self.n]);
+        };
         let mut flags = vec![0; self.n];
-        for (list, bit) in [(&self.active, 1), (&self.black, 2)] {
+        for (list, bit) in [(&lists.active, 1), (&lists.black, 2)] {
             for &i in list {
                 *flags.get_mut(i).ok_or(Refusal::UnknownNode)? |= bit;
             }
@@ -106,18 +116,18 @@ fn ring_start(form: &[u8]) -> Result<RingStart, Refusal> {
     let mut items = Items { rest: form };
     items.literal(b"ring ")?;
     let n = items.number()?;
-    let (active, black) = if items.rest.is_empty() {
-        (Vec::new(), Vec::new())
+    let lists = if items.rest.is_empty() {
+        None
     } else {
         items.literal(b" (active")?;
         let active = items.list()?;
         items.literal(b") (black")?;
         let black = items.list()?;
         items.literal(b")")?;
-        (active, black)
+        Some(Lists { active, black })
     };
     items.end()?;
-    Ok(RingStart { n, active, black })
+    Ok(RingStart { n, lists })
 }
 
 /// `tree N (root R)`.

@@ -50,7 +50,7 @@ fn five_moves() {
 #[test]
 fn ring_of_one() {
     check(
-        "(ring 1), (announce), (probe), (announce)",
+        "(ring 1 (active) (black)), (announce), (probe), (announce)",
         "(ok 1), (no 2 8), (ok 3), (ok 4), (end (boards 1) (holder 0) (moves 1) (flight 0) (black 0))",
     );
 }
@@ -91,6 +91,48 @@ fn sizes_of_a_start() {
         first("(tree 16 (root 15))"),
         "(ok 1)\n(end (boards 16) (engaged (15)) (acks 0))\n"
     );
+}
+
+/// Request Q-6. Every node has to become passive, node 0 too, which may probe before; none is black, so that one round is enough.
+#[test]
+fn without_lists_all_nodes_are_active_and_white() {
+    check(
+        "(ring 1), (announce), (probe), (announce), (idle 0), (idle 0), (announce)",
+        "(ok 1), (no 2 8), (ok 3), (no 4 8), (ok 5), (no 6 8), (ok 7), (end (boards 1) (holder 0) (moves 1) (flight 0) (black 0))",
+    );
+    check(
+        "(ring 2), (idle 0), (probe), (pass 1), (idle 1), (pass 1), (announce)",
+        "(ok 1), (ok 2), (ok 3), (no 4 8), (ok 5), (ok 6), (ok 7), (end (boards 2) (holder 0) (moves 2) (flight 0) (black 0))",
+    );
+    check(
+        "(ring 2 (active) (black)), (idle 0), (send 1 0), (probe), (pass 1), (announce)",
+        "(ok 1), (no 2 8), (no 3 8), (ok 4), (ok 5), (ok 6), (end (boards 2) (holder 0) (moves 2) (flight 0) (black 0))",
+    );
+    check(
+        "(ring 96), (idle 95), (idle 95), (send 94 95), (idle 96), (send 95 0)",
+        "(ok 1), (ok 2), (no 3 8), (ok 4), (no 5 6), (no 6 8), (end (boards 96) (holder 0) (moves 0) (flight 1) (black 0))",
+    );
+}
+
+/// Each node in turn: before its idle it sends and does not let the token go, after it the other way round.
+#[test]
+fn without_lists_each_node_of_every_ring_is_active() {
+    for n in 1..=MAX_NODES {
+        let mut log = format!("(ring {n})\n(probe)\n");
+        let mut expected = String::from("(ok 1)\n(ok 2)\n");
+        for (turn, i) in (1..n).rev().enumerate() {
+            log += &format!("(pass {i})\n(idle {i})\n(send {i} 0)\n(pass {i})\n");
+            let line = 3 + 4 * turn;
+            let [idle, send, pass] = [line + 1, line + 2, line + 3];
+            expected += &format!("(no {line} 8)\n(ok {idle})\n(no {send} 8)\n(ok {pass})\n");
+        }
+        log += "(announce)\n(idle 0)\n(announce)\n";
+        let line = 4 * n - 1;
+        let [idle, last] = [line + 1, line + 2];
+        expected += &format!("(no {line} 8)\n(ok {idle})\n(ok {last})\n");
+        expected += &format!("(end (boards {n}) (holder 0) (moves {n}) (flight 0) (black 0))\n");
+        assert_eq!(answers(log.as_bytes()), expected);
+    }
 }
 
 #[test]
@@ -265,7 +307,7 @@ fn tree_lines_that_are_not_a_form() {
 #[test]
 fn steps_are_judged_in_the_order_of_the_table() {
     check(
-        "(ring 3), (send 3 3), (send 0 99999), (send 2 2), (send 1 2), (take 0), (idle 3), (pass 3), (pass 0), (probe), (pass 2), (pass 1), (announce), (send 9 9), (probe), (probe 1)",
+        "(ring 3 (active) (black)), (send 3 3), (send 0 99999), (send 2 2), (send 1 2), (take 0), (idle 3), (pass 3), (pass 0), (probe), (pass 2), (pass 1), (announce), (send 9 9), (probe), (probe 1)",
         "(ok 1), (no 2 6), (no 3 6), (no 4 8), (no 5 8), (no 6 8), (no 7 6), (no 8 6), (no 9 8), (ok 10), (ok 11), (ok 12), (ok 13), (no 14 4), (no 15 4), (no 16 10), (end (boards 3) (holder 0) (moves 3) (flight 0) (black 0))",
     );
     check(
@@ -331,10 +373,10 @@ fn the_largest_take() {
     ));
 }
 
-/// The samples' answers, which were worked out by hand: takes of several, messages to oneself.
+/// The samples' answers, which were worked out by hand: takes of several, messages to oneself, a start without lists.
 #[test]
-fn the_samples_of_an_inbox_and_of_messages_to_oneself() {
-    for name in ["inbox", "own"] {
+fn the_samples_of_an_inbox_of_messages_to_oneself_and_of_a_start_without_lists() {
+    for name in ["inbox", "own", "bare"] {
         let read = |end: &str| {
             let path = format!("{}/../samples/{name}.{end}", env!("CARGO_MANIFEST_DIR"));
             std::fs::read(path).expect("the sample")

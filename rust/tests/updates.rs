@@ -1,4 +1,4 @@
-//! Logs of updates: request Q-1, "The log", and requests.
+//! Logs of updates: request Q-1, "The log", and requests.
 
 use second::log::{run, Log, LINE_BYTES, LINE_LIMIT};
 use second::ring::MAX_NODES;
@@ -22,7 +22,7 @@ const BLANK: &str = "(end (boards 2) (holder 0) (moves 0) (flight 0) (black 0))"
 #[test]
 fn end_lines_ascend_and_count_from_the_latest_start() {
     check(
-        "(update 7 (ring 2)), (update 0 (ring 2 (active 0) (black 1))), (update 7 (probe)), (update 0 (send 0 1)), (update 3 (ring 2)), (update 0 (probe)), (update 7 (pass 1)), (update 3 (probe)), (update 3 (ring 2 (active) (black 0 1)))",
+        "(update 7 (ring 2 (active) (black))), (update 0 (ring 2 (active 0) (black 1))), (update 7 (probe)), (update 0 (send 0 1)), (update 3 (ring 2 (active) (black))), (update 0 (probe)), (update 7 (pass 1)), (update 3 (probe)), (update 3 (ring 2 (active) (black 0 1)))",
         "(ok 1), (ok 2), (ok 3), (ok 4), (ok 5), (ok 6), (ok 7), (ok 8), (ok 9), (update 0 (end (boards 2) (holder 1) (moves 1) (flight 1) (black 1))), (update 3 (end (boards 2) (holder 0) (moves 0) (flight 0) (black 2))), (update 7 (end (boards 2) (holder 0) (moves 2) (flight 0) (black 0)))",
     );
 }
@@ -30,7 +30,7 @@ fn end_lines_ascend_and_count_from_the_latest_start() {
 #[test]
 fn a_closed_update_has_its_end_line() {
     check(
-        "(update 1 (ring 1)), (update 1 (announce)), (update 1 (probe)), (update 1 (announce)), (update 1 (probe)), (update 2 (probe))",
+        "(update 1 (ring 1 (active) (black))), (update 1 (announce)), (update 1 (probe)), (update 1 (announce)), (update 1 (probe)), (update 2 (probe))",
         "(ok 1), (no 2 8), (ok 3), (ok 4), (no 5 4), (no 6 13), (update 1 (end (boards 1) (holder 0) (moves 1) (flight 0) (black 0)))",
     );
 }
@@ -38,8 +38,17 @@ fn a_closed_update_has_its_end_line() {
 #[test]
 fn an_announcement_is_of_its_update_and_a_fresh_start_reopens_it() {
     check(
-        "(update 4 (ring 1)), (update 5 (ring 1 (active 0) (black))), (update 4 (probe)), (update 4 (announce)), (update 5 (probe)), (update 5 (announce)), (update 4 (ring 1)), (update 4 (probe)), (update 4 (announce)), (update 4 (ring 2))",
+        "(update 4 (ring 1 (active) (black))), (update 5 (ring 1 (active 0) (black))), (update 4 (probe)), (update 4 (announce)), (update 5 (probe)), (update 5 (announce)), (update 4 (ring 1 (active) (black))), (update 4 (probe)), (update 4 (announce)), (update 4 (ring 2))",
         "(ok 1), (ok 2), (ok 3), (ok 4), (ok 5), (no 6 8), (ok 7), (ok 8), (ok 9), (no 10 1), (update 4 (end (boards 1) (holder 0) (moves 1) (flight 0) (black 0))), (update 5 (end (boards 1) (holder 0) (moves 1) (flight 0) (black 0)))",
+    );
+}
+
+/// Request Q-6: in the first line and later, of an update that is new, open or announced.
+#[test]
+fn without_lists_all_nodes_of_an_update_are_active_and_white() {
+    check(
+        "(update 3 (ring 2)), (update 0 (ring 2)), (update 1 (ring 2 (active) (black))), (update 3 (send 1 0)), (update 0 (idle 1)), (update 0 (idle 0)), (update 1 (idle 0)), (update 0 (probe)), (update 0 (pass 1)), (update 0 (announce)), (update 0 (ring 2)), (update 0 (idle 0)), (update 1 (ring 2)), (update 1 (idle 1)), (update 1 (announce))",
+        "(ok 1), (ok 2), (ok 3), (ok 4), (ok 5), (ok 6), (no 7 8), (ok 8), (ok 9), (ok 10), (ok 11), (ok 12), (ok 13), (ok 14), (no 15 8), (update 0 (end (boards 2) (holder 0) (moves 0) (flight 0) (black 0))), (update 1 (end (boards 2) (holder 0) (moves 0) (flight 0) (black 0))), (update 3 (end (boards 2) (holder 0) (moves 0) (flight 1) (black 0)))",
     );
 }
 
@@ -93,7 +102,7 @@ fn first_lines_that_are_refused() {
 
 /// After the start of update 2.
 fn assert_refused(line: &str, number: u32) {
-    let log = format!("(update 2 (ring 2))\n{line}\n");
+    let log = format!("(update 2 (ring 2 (active) (black)))\n{line}\n");
     let expected = format!("(ok 1)\n(no 2 {number})\n(update 2 {BLANK})\n");
     assert_eq!(answers(log.as_bytes()), expected, "{line}");
 }

@@ -3,16 +3,18 @@ use mathlib.Core.Path.{_≡_, refl, sym, ap, _∙_}
 use mathlib.Core.Bool.{Bool, cond, false, true}
 use mathlib.Core.Logic.{_↔_}
 use mathlib.Core.List.{List, [], _∷_}
-use Prim.Native.Nat.{ℕ, _+_, _≤_, _<_, max}
+use Prim.Native.Nat.{ℕ, zero, suc, _+_, _≤_, _<_, max}
 use native.Mathlib.Omega.{arith}
 use lib.ListN.{length, getD, set, length-set, length-replicate, getD-replicate}
 use lib.Seq.{getD-set-same, getD-set-other}
 use lib.Dec.{ltb, eqb}
 use lib.Bits.{bitOr}
-use borrow.Author.Tests.{lt-ltb, eqb-true, eqb-false}
+use native.Mathlib.Decide.{ℕ-discrete}
+use borrow.Author.Tests.{lt-ltb, eq-eqb, ne-eqb, eqb-true, eqb-false}
+use Rattle.decimal.specs.Number.{numberLimit}
 use Rattle.forms.specs.Form.{Ascending}
 use Rattle.first_line.specs.Start.{bare, lists, zeros, flagged, flagAll, topOf, seen}
-use Rattle.first_line.specs.Meaning.{named, Below, flagByte, Means}
+use Rattle.first_line.specs.Meaning.{named, nodesFrom, everyNode, Below, flagByte, Means}
 
 -- 1. top is at most n exactly if every node named is below n
 top-below : (ks : List ℕ) (t n : ℕ) → (topOf ks t ≤ n) ↔ ((t ≤ n) × Below n ks)
@@ -85,7 +87,7 @@ two-bits true false = refl
 two-bits false true = refl
 two-bits true true = refl
 
-flag-mean : (active black : List ℕ) (i : ℕ) → i < 96 → Ascending 0 active → Ascending 0 black
+pub flag-mean : (active black : List ℕ) (i : ℕ) → i < 96 → Ascending 0 active → Ascending 0 black
     → getD (flagAll 2 black (flagAll 1 active zeros)) i 0 ≡ flagByte (named active i) (named black i)
 flag-mean a b i h ha hb =
     let z : getD zeros i 0 ≡ 0 = getD-replicate 96 i 0 0 h in
@@ -94,15 +96,49 @@ flag-mean a b i h ha hb =
     flag-at 2 i b 0 (flagAll 1 a zeros) h (all-length 1 a zeros ∙ n) hb
     ∙ (ap (λ (x : ℕ). cond (named b i) (bitOr x 2) x) first ∙ two-bits (named a i) (named b i))
 
--- 3. the answer to a ring line
+-- 3. all nodes of a ring
+named-from : (many low i : ℕ) → low ≤ i → i < low + many → named (nodesFrom low many) i ≡ true
+unfolding nodesFrom
+named-from zero low i l h = absurd (let z : ⊥ = omega arith in z)
+named-from (suc many) low i l h =
+    elim (ℕ-discrete low i)
+    [ yes e ↦ rw (eq-eqb low i e) | no e ↦ rw (ne-eqb low i e) (named-from many (low + 1) i (omega arith) (omega arith)) ]
+
+from-below : (many low m : ℕ) → low ≤ m → (low + many ≤ m) ↔ Below m (nodesFrom low many)
+unfolding nodesFrom
+from-below zero low m l = (λ h. tt, λ b. omega arith)
+from-below (suc many) low m l = (
+  λ h. (omega arith, from-below many (low + 1) m (omega arith) .0 (omega arith)),
+  λ b. omega (arith, from-below many (low + 1) m (omega (arith, b .0)) .1 (b .1)),
+)
+
+from-ascends : (many low : ℕ) → low + many ≤ numberLimit + 1 → Ascending low (nodesFrom low many)
+unfolding nodesFrom
+from-ascends zero low h = tt
+from-ascends (suc many) low h = (omega arith, omega arith, from-ascends many (low + 1) (omega arith))
+
+pub named-every : (n i : ℕ) → i < n → named (everyNode n) i ≡ true
+named-every n i h = named-from n 0 i (omega arith) (omega arith)
+
+pub every-below : (n m : ℕ) → (n ≤ m) ↔ Below m (everyNode n)
+every-below n m = let w = from-below n 0 m (omega arith) in (λ h. w .0 (omega arith), λ b. omega (arith, w .1 b))
+
+pub every-ascends : (n : ℕ) → n ≤ numberLimit + 1 → Ascending 0 (everyNode n)
+every-ascends n h = from-ascends n 0 (omega arith)
+
+-- 4. the answer to a ring line
 pub lists-mean : (n : ℕ) (active black : List ℕ) (e : ℕ) → Ascending 0 active → Ascending 0 black
     → Means active black (seen (lists n active black) e)
 lists-mean n a b e ha hb = record {
   many = all-length 2 b (flagAll 1 a zeros) ∙ (all-length 1 a zeros ∙ length-replicate {A = ℕ} 96 0);
-  flag = λ i h. flag-mean a b i h ha hb;
+  flag = λ i _ h. flag-mean a b i h ha hb;
   most = top-mean a b;
 }
 
--- "without lists it means all idle and white"
-pub bare-mean : (n e : ℕ) → Means [] [] (seen (bare n) e)
-bare-mean n e = lists-mean n [] [] e tt tt
+-- Q-6: "all active and white"
+pub bare-mean : (n e : ℕ) → Means (everyNode n) [] (seen (bare n) e)
+bare-mean n e = record {
+  many = length-replicate {A = ℕ} 96 1;
+  flag = λ i h k. getD-replicate 96 i 1 0 k ∙ sym (ap (λ (t : Bool). flagByte t false) (named-every n i h));
+  most = λ m. (λ h. (every-below n m .0 h, tt), λ b. every-below n m .1 (b .0));
+}

@@ -1,4 +1,4 @@
--- What the answer to a first line holds (document 01, "The log program"). Assumes nothing.
+-- What the answer to a first line holds (document 01, "The log program"; document 02, Q-6). Assumes nothing.
 use mathlib.Core.Bool.{cond}
 use mathlib.Core.List.{List, [], _∷_}
 use Prim.Native.Nat.{ℕ, _+_, max}
@@ -24,6 +24,10 @@ startForm (tree n root) = treeOf n root
 abbrev pub zeros : List ℕ
 zeros = replicate 96 0
 
+-- every node active and white
+abbrev pub ones : List ℕ
+ones = replicate 96 1
+
 abbrev pub ringFirst : ℕ → List ℕ → ℕ → ℕ → First
 ringFirst n flags top end = record { kind = Ring; n = n; root = 0; flags = flags; top = top; end = end }
 
@@ -48,9 +52,9 @@ abbrev pub topOf : List ℕ → ℕ → ℕ
 topOf [] top = top
 topOf (k ∷ ks) top = topOf ks (max top (k + 1))
 
--- what the answer holds of a form that ends before index e: "without lists it means all idle and white"
+-- what the answer holds of a form that ends before index e. Document 02, Q-6: "`(ring 3)` alone now means all active and white"
 abbrev pub seen : Start → ℕ → First
-seen (bare n) e = ringFirst n zeros 0 e
+seen (bare n) e = ringFirst n ones n e
 seen (lists n active black) e = ringFirst n (flagAll 2 black (flagAll 1 active zeros)) (topOf black (topOf active 0)) e
 seen (tree n root) e = treeFirst n root e
 

@@ -17,7 +17,8 @@ pub enum FirstKind {
 }
 
 // What a first line says, or its form. A ring: its n nodes, a start flag for each of the first 96 (1 active, 2 black), and one more than the largest
-// node that its lists name. A tree: its n nodes and its root. `end` is the index past the form, or past the byte 10 of its line.
+// node that it names. Without lists it names all n nodes active, and none black: every flag is 1, and a start takes the first n. A tree: its n nodes
+// and its root. `end` is the index past the form, or past the byte 10 of its line.
 pub struct First {
     pub kind: FirstKind,
     pub n: usize,
@@ -183,7 +184,7 @@ fn ring_after(s: &[u8], m: Num) -> First
     match m {
         Num::Value(n, p) => {
             if has(s, p, b")") {
-                return ring_first(n, [0; RING_NODES], 0, p + 1);
+                return ring_first(n, [1; RING_NODES], n, p + 1);
             }
             lists(s, n, p)
         }

@@ -45,6 +45,28 @@ examples =
           bytes "(ok 1)\n(ok 2)\n(ok 3)\n(ok 4)\n(ok 5)\n(no 6 8)\n(ok 7)\n(ok 8)\n(no 9 8)\n(ok 10)\n"
           ++ bytes "(ok 11)\n(no 12 8)\n(ok 13)\n(no 14 8)\n(ok 15)\n(ok 16)\n(no 17 4)\n(end (boards 2) (engaged (0)) (acks 0))\n";
     }
+    -- Q-6: a ring without lists, all active and white: each node has to become passive before the announcement; with both lists empty none has to
+    ∷ record {
+      log =
+          bytes "(ring 2)\n(announce)\n(probe)\n(pass 1)\n(idle 1)\n(pass 1)\n(announce)\n(probe)\n(idle 0)\n(announce)\n(idle 1)\n";
+      output =
+          bytes "(ok 1)\n(no 2 8)\n(ok 3)\n(no 4 8)\n(ok 5)\n(ok 6)\n(no 7 8)\n(no 8 8)\n(ok 9)\n(ok 10)\n(no 11 4)\n"
+          ++ bytes "(end (boards 2) (holder 0) (moves 2) (flight 0) (black 0))\n";
+    }
+    ∷ record {
+      log = bytes "(ring 2 (active) (black))\n(idle 0)\n(idle 1)\n(probe)\n(pass 1)\n(announce)\n";
+      output = bytes "(ok 1)\n(no 2 8)\n(no 3 8)\n(ok 4)\n(ok 5)\n(ok 6)\n(end (boards 2) (holder 0) (moves 2) (flight 0) (black 0))\n";
+    }
+    -- the same inside updates, in the first line and later; update 5 is started afresh without lists
+    ∷ record {
+      log =
+          bytes "(update 2 (ring 2))\n(update 5 (ring 2 (active) (black)))\n(update 2 (send 1 0))\n(update 5 (send 1 0))\n(update 5 (ring 2))\n"
+          ++ bytes "(update 5 (send 1 0))\n(update 5 (idle 0))\n(update 5 (idle 0))\n";
+      output =
+          bytes "(ok 1)\n(ok 2)\n(ok 3)\n(no 4 8)\n(ok 5)\n(ok 6)\n(ok 7)\n(no 8 8)\n"
+          ++ bytes "(update 2 (end (boards 2) (holder 0) (moves 0) (flight 1) (black 0)))\n"
+          ++ bytes "(update 5 (end (boards 2) (holder 0) (moves 0) (flight 1) (black 0)))\n";
+    }
     -- after a bad or missing first line its refusal is all
     ∷ record { log = bytes "(ring 97)\n(probe)\n"; output = bytes "(no 1 1)\n" }
     ∷ record { log = bytes "(ring 2 (active 2) (black))\n(probe)\n"; output = bytes "(no 1 6)\n" }
@@ -76,7 +98,8 @@ examples =
     -- start that is refused leaves it; 9 and 8 are no updates; update 0 is announced; a bare start
     ∷ record {
       log =
-          bytes "(update 2 (ring 2 (active) (black 1)))\n(update 0 (ring 3))\n(update 0 (ring 2))\n(update 2 (probe))\n(probe)\n(update 0 (probe))\n"
+          bytes "(update 2 (ring 2 (active) (black 1)))\n(update 0 (ring 3))\n(update 0 (ring 2 (active) (black)))\n"
+          ++ bytes "(update 2 (probe))\n(probe)\n(update 0 (probe))\n"
           ++ bytes "(update 1 (probe))\n(update 2 (pass 1))\n(update 0 (pass 1))\n(update 0 (announce))\n(update 2 (ring 2 (active 0) (black)))\n(update 2 (send 0 1))\n"
           ++ bytes "(update 2 (ring 2 (active 2) (black)))\n(update 9 (ring 3))\n(update 8 (probe))\n(update 0 (probe))\n(ring 2)\n";
       output =

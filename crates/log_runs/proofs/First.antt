@@ -12,7 +12,7 @@ use native.Mathlib.Decide.{decLt}
 use native.Mathlib.Omega.{arith}
 use Rattle.first_line.proofs.Meaning.{bare-mean, lists-mean}
 use Rattle.first_line.proofs.Opens.{first-exact, first-other}
-use Rattle.first_line.specs.Meaning.{Below, Means, flagByte, named}
+use Rattle.first_line.specs.Meaning.{Below, Means, everyNode, flagByte, named}
 use Rattle.first_line.specs.Read.{firstAt}
 use Rattle.first_line.specs.Start.{Start, bare, lists, ringFirst, seen, startForm, tree}
 use Rattle.first_line.specs.declared.First.{First}
@@ -101,7 +101,7 @@ opening-once l (inr v) (inr w) s t = ap inr (wrapped-once l v w s t)
 
 -- ---- the nodes that a ring's lists name
 
-below-test : (n : ℕ) (ks : List ℕ) → (allBelow n ks ≡ true) ↔ Below n ks
+pub below-test : (n : ℕ) (ks : List ℕ) → (allBelow n ks ≡ true) ↔ Below n ks
 below-test n [] = (λ e. tt, λ b. refl)
 below-test n (k ∷ ks) =
     let ih = below-test n ks in (
@@ -129,7 +129,7 @@ flags-length : (active black : List ℕ) (n : ℕ) → length (flagsTo active bl
 unfolding flagsTo
 flags-length a b n = list-length _ n
 
-flags-at : (active black : List ℕ) (n i : ℕ) → i < n → getD (flagsTo active black n) i 0 ≡ flagByte (named active i) (named black i)
+pub flags-at : (active black : List ℕ) (n i : ℕ) → i < n → getD (flagsTo active black n) i 0 ≡ flagByte (named active i) (named black i)
 unfolding flagsTo
 flags-at a b n i h = list-at (λ i. flagByte (named a i) (named b i)) n i h
 
@@ -148,7 +148,7 @@ range most n k e =
     let w = both (ltb 0 n) (leb n most) (p .0) in
     (ltb-true 0 n (w .0), leb-true n most (w .1), p .1)
 
-flags-start : (n : ℕ) (a b : List ℕ) → 0 < n → n ≤ 96 → ringStart.startVerdict n (flagsTo a b n) ≡ Accepted
+pub flags-start : (n : ℕ) (a b : List ℕ) → 0 < n → n ≤ 96 → ringStart.startVerdict n (flagsTo a b n) ≡ Accepted
 flags-start n a b lo hi =
     ringLaws.accepted-start n (flagsTo a b n) (record {
       some-node = lo;
@@ -231,13 +231,13 @@ top-known n a b {f} m = go (knownBy n a b) refl (split (ltb n (f .top)))
         absurd (false-true (sym e ∙ both-true (below-test n a .1 (w .0)) (below-test n b .1 (w .1))))
 
 -- its flags are those of the lists
-pub flags-same : (n : ℕ) (a b : List ℕ) {f : First} → Means a b f → n ≤ 96 → take n (f .flags) ≡ flagsTo a b n
-flags-same n a b {f} m h =
-    let len = length-take-le n (f .flags) (omega (arith, m .many)) in
-    ext-getD 0 (take n (f .flags)) (flagsTo a b n) (len ∙ sym (flags-length a b n))
+flags-same : (a b : List ℕ) {f : First} → Means a b f → f .n ≤ 96 → take (f .n) (f .flags) ≡ flagsTo a b (f .n)
+flags-same a b {f} m h =
+    let len = length-take-le (f .n) (f .flags) (omega (arith, m .many)) in
+    ext-getD 0 (take (f .n) (f .flags)) (flagsTo a b (f .n)) (len ∙ sym (flags-length a b (f .n)))
     (λ i k.
-    let j : i < n = omega arith in
-    getD-take n (f .flags) i 0 j ∙ (m .flag i (omega arith) ∙ sym (flags-at a b n i j)))
+    let j : i < f .n = omega arith in
+    getD-take (f .n) (f .flags) i 0 j ∙ (m .flag i j (omega arith) ∙ sym (flags-at a b (f .n) i j)))
 
 ring-told :
     (n top e : ℕ) (flags a b : List ℕ) → Means a b (ringFirst n flags top e)
@@ -251,7 +251,7 @@ ring-told n top e flags a b m =
     same : firstVerdict (StartAsk.ring-start n a b) ≡ Accepted → onRing (ringStart.firstState n (take n flags)) 0 ≡ begun (StartAsk.ring-start n a b)
     same v =
         let w = range 96 n (knownBy n a b) v in
-        ap (λ (x : List ℕ). onRing (ringStart.firstState n x) 0) (flags-same n a b m (w .1))
+        ap (λ (x : List ℕ). onRing (ringStart.firstState n x) 0) (flags-same a b m (w .1))
         ∙ ap (λ (r : _). onRing r 0) (sym (ringTheorems.start-answered .first n (flagsTo a b n) (ring-accepted n a b v)))
 
 root-known : (n root : ℕ) → leb n root ≡ not (ltb root n)
@@ -275,7 +275,7 @@ tree-told n root =
 start-told :
     {l : List ℕ} (f : Start) → Says l (startForm f)
     → firstTold (seen f 0 .kind) (seen f 0) ≡ openedBy (firstVerdict (meant (inl f))) (begun (meant (inl f)))
-start-told (bare n) s = ring-told n 0 0 _ [] [] (bare-mean n 0)
+start-told (bare n) s = ring-told n _ 0 _ (everyNode n) [] (bare-mean n 0)
 start-told (lists n a b) s = ring-told n _ 0 _ a b (lists-mean n a b 0 (s .1 .0 .1) (s .1 .0 .2))
 start-told (tree n root) s = tree-told n root
 
@@ -293,7 +293,7 @@ module _ (t : Table) (u n top e : ℕ) (flags a b : List ℕ) (m : Means a b (ri
       (top-known n a b m)
 
   pub update-after : updateVerdict t u n a b ≡ Accepted → after t (updateAsk u seenFirst) ≡ after t (table.Start u n (flagsTo a b n))
-  update-after v = ap (λ (x : List ℕ). after t (table.Start u n x)) (flags-same n a b m (update-passed t u n a b v .0))
+  update-after v = ap (λ (x : List ℕ). after t (table.Start u n x)) (flags-same a b m (update-passed t u n a b v .0))
 
 update-told :
     (u n top e : ℕ) (flags a b : List ℕ) → Means a b (ringFirst n flags top e)
@@ -311,7 +311,7 @@ wrapped-told :
     {l : List ℕ} (w : Wrapped) → Says l (wrappedForm w)
     → updateFirst (read.read w 0) ≡ openedBy (firstVerdict (meant (inr w))) (begun (meant (inr w)))
 wrapped-told (wrapped.step u f) s = refl
-wrapped-told (wrapped.bare u n) s = update-told u n 0 0 _ [] [] (bare-mean n 0)
+wrapped-told (wrapped.bare u n) s = update-told u n _ 0 _ (everyNode n) [] (bare-mean n 0)
 wrapped-told (wrapped.lists u n a b) s = update-told u n _ 0 _ a b (lists-mean n a b 0 (s .1 .0 .1 .1) (s .1 .0 .1 .2))
 
 pub first-told : {l : List ℕ} {a : StartAsk} → FirstAsks l a → lineTold fresh 1 l ≡ openedBy (firstVerdict a) (begun a)

@@ -6,4 +6,5 @@ pub mod Theorems
 pub mod UpdateParts
 pub mod UpdateLog
 pub mod WholeLog
+pub mod Bare
 pub mod Listing

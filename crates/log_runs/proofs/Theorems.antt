@@ -20,7 +20,7 @@ use Rattle.forms.specs.declared.RingLine.{RingLine}
 use Rattle.forms.specs.declared.RingStep.{RingStep}
 use Rattle.forms.specs.declared.TreeLine.{TreeLine}
 use Rattle.laws.proofs.Tests.{both}
-use Rattle.first_line.proofs.Flags.{seen-flags, zero-flags}
+use Rattle.first_line.proofs.Flags.{seen-flags, one-flags}
 use Rattle.log_rules.proofs.First.{flags-fit, update-verdict}
 use Rattle.log_rules.proofs.Theorems.{lines-say}
 use Rattle.log_rules.specs.Answers.{Stage, Told, answerText, firstTold, fresh, freshTold, isMove, lineTold, noMoves, onRing, onTable, onTree, openedBy, ringRequest, ringTable, ringTold, treeRequest, treeTold, updateAsk, updateFirst, updateOpened, updateTable}
@@ -327,7 +327,7 @@ first l = go (seenOf (firstAt l 0) .kind)
 
     update : (w : Read Wrapped) → wrappedAt l 0 ≡ w → BegunOpen (updateFirst w .stage)
     update (read.read (wrapped.step u h) e) p = tt
-    update (read.read (wrapped.bare u n) e) p = update-open u (seen (start.bare n) e) zero-flags
+    update (read.read (wrapped.bare u n) e) p = update-open u (seen (start.bare n) e) one-flags
     update (read.read (wrapped.lists u n a b) e) p =
         update-open u (seen (start.lists n a b) e) (subst (λ (w : Read Wrapped). Flags (wrappedSeen w .first .flags)) p (wrapped-flags l 0))
     update read.other p = tt

@@ -11,7 +11,7 @@ use mathlib.Core.Path.{_∙_, _≡_, ap, refl, subst, sym}
 use native.Mathlib.Nat.{add-zero}
 use native.Mathlib.Omega.{arith}
 use Rattle.first_line.proofs.Meaning.{bare-mean, lists-mean}
-use Rattle.first_line.specs.Meaning.{Means}
+use Rattle.first_line.specs.Meaning.{Means, everyNode}
 use Rattle.first_line.specs.Start.{ringFirst}
 use Rattle.forms.specs.Form.{Says}
 use Rattle.forms.specs.Read.{Read}
@@ -58,7 +58,7 @@ update-reads = record { form = wrappedForm; asked = askOf; once = wrapped-once; 
 -- ---- one line
 
 -- a line that asks for a is answered with the verdict on it, and the moves go on from there
-record LineTold (t : Table) (ms : List ℕ) (k : ℕ) (l : List ℕ) (a : UpdateAsk) : Type 0 where
+pub record LineTold (t : Table) (ms : List ℕ) (k : ℕ) (l : List ℕ) (a : UpdateAsk) : Type 0 where
   pub text : lineTold (onTable t ms) k l .text ≡ answerText k (verdictOf t a)
   pub there : lineTold (onTable t ms) k l .stage ≡ onTable (next updates t a) (settle (verdictOf t a) (moved ms a) ms)
 
@@ -87,7 +87,7 @@ start-told t ms k u n top e flags a b m p =
           (settle-same (updateVerdict t u n a b) t (update-after t u n top e flags a b m)));
     }
 
-line-told : (t : Table) (ms : List ℕ) (k : ℕ) (l : List ℕ) (w : Wrapped) → Says l (wrappedForm w) → LineTold t ms k l (askOf w)
+pub line-told : (t : Table) (ms : List ℕ) (k : ℕ) (l : List ℕ) (w : Wrapped) → Says l (wrappedForm w) → LineTold t ms k l (askOf w)
 unfolding answerOn
 line-told t ms k l (wrapped.step u f) s =
     let e = lines-say .update-line t ms k l (wrapped.step u f) s in
@@ -96,7 +96,8 @@ line-told t ms k l (wrapped.step u f) s =
       text = ap (λ (x : Told). x .text) e;
       there = ap (λ (x : Told). x .stage) e ∙ ap (onTable (nextTable t (Step u (ringRequest f)))) (step-moves ms u f v);
     }
-line-told t ms k l (wrapped.bare u n) s = start-told t ms k u n _ _ _ [] [] (bare-mean n 0) (lines-say .update-line t ms k l (wrapped.bare u n) s)
+line-told t ms k l (wrapped.bare u n) s =
+    start-told t ms k u n _ _ _ (everyNode n) [] (bare-mean n 0) (lines-say .update-line t ms k l (wrapped.bare u n) s)
 line-told t ms k l (wrapped.lists u n a b) s =
     start-told t ms k u n _ _ _ a b (lists-mean n a b 0 (s .1 .0 .1 .1) (s .1 .0 .1 .2)) (lines-say .update-line t ms k l (wrapped.lists u n a b) s)
 

@@ -4,7 +4,7 @@ use lib.Dec.{leb, ltb}
 use mathlib.Core.Bool.{Bool, _&&_, not, true}
 use mathlib.Core.List.{List, [], _∷_}
 use mathlib.Core.Logic.{_⊎_, inl, inr}
-use Rattle.first_line.specs.Meaning.{flagByte, named}
+use Rattle.first_line.specs.Meaning.{everyNode, flagByte, named}
 use Rattle.first_line.specs.Start.{Start, bare, lists, startForm, tree}
 use Rattle.forms.specs.Form.{Form}
 use Rattle.log_rules.specs.Answers.{Stage, noMoves, onRing, onTable, onTree, over}
@@ -28,14 +28,14 @@ pub data StartAsk : Type 0 where
   update-start : (u n : ℕ) (active black : List ℕ) → StartAsk
   no-start : StartAsk
 
--- "A ring line has both lists or neither; without lists it means all idle and white."
--- Q-1: "a start `(update 2 (ring 4))`"; a wrapped step is none
+-- "A ring line has both lists or neither". Document 02, Q-6: "`(ring 3)` alone now means all active and white"; Q-1: "a start `(update 2 (ring 4))`";
+-- a wrapped step is none
 abbrev pub meant : Start ⊎ Wrapped → StartAsk
-meant (inl (bare n)) = ring-start n [] []
+meant (inl (bare n)) = ring-start n (everyNode n) []
 meant (inl (lists n active black)) = ring-start n active black
 meant (inl (tree n root)) = tree-start n root
 meant (inr (wrapped.step u f)) = no-start
-meant (inr (wrapped.bare u n)) = update-start u n [] []
+meant (inr (wrapped.bare u n)) = update-start u n (everyNode n) []
 meant (inr (wrapped.lists u n active black)) = update-start u n active black
 
 abbrev pub firstForm : Start ⊎ Wrapped → Form

@@ -5,4 +5,5 @@ pub mod Updates
 pub mod UpdateLog
 pub mod Theorems
 pub mod WholeLog
+pub mod Bare
 pub mod Listing

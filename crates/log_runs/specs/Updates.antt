@@ -5,6 +5,7 @@ use lib.ListN.{getD, set}
 use mathlib.Core.Bool.{Bool, _&&_, cond, false}
 use mathlib.Core.List.{List, [], _∷_}
 use mathlib.Core.Path.{_≡_}
+use Rattle.first_line.specs.Meaning.{everyNode}
 use Rattle.log_rules.specs.Answers.{addAt, ringRequest}
 use Rattle.refusal.specs.Table.{isAccepted}
 use Rattle.refusal.specs.declared.Verdict.{Verdict}
@@ -24,9 +25,10 @@ pub data UpdateAsk : Type 0 where
   step : (u : ℕ) (x : Request) → UpdateAsk
   start : (u n : ℕ) (active black : List ℕ) → UpdateAsk
 
+-- Document 02, Q-6: without lists all nodes active and white
 abbrev pub askOf : Wrapped → UpdateAsk
 askOf (wrapped.step u f) = step u (ringRequest f)
-askOf (wrapped.bare u n) = start u n [] []
+askOf (wrapped.bare u n) = start u n (everyNode n) []
 askOf (wrapped.lists u n active black) = start u n active black
 
 abbrev pub UpdateAsks : List ℕ → Ask UpdateAsk → Type 0

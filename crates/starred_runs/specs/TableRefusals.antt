@@ -142,7 +142,7 @@ order =
     ∷ prints (bytes "(update 7 (ring 97 (active 97) (black)))\n") "(no 1 1)\n"
     -- 10 over 4, in a closed run
     ∷ prints
-    (bytes "(ring 1)\n(probe)\n(announce)\n(leave 0)\n(probe)\n")
+    (bytes "(ring 1 (active) (black))\n(probe)\n(announce)\n(leave 0)\n(probe)\n")
     "(ok 1)\n(ok 2)\n(ok 3)\n(no 4 10)\n(no 5 4)\n(end (boards 1) (holder 0) (moves 1) (flight 0) (black 0))\n"
     ∷ prints
     (bytes "(tree 1 (root 0))\n(idle 0)\n(announce)\n(probe)\n(idle 0)\n")

@@ -120,10 +120,11 @@ fn started(rng: &mut Rng, turn: usize) -> Writer {
 }
 
 /// The seeds take turns: guided runs with each mix on a ring and on a tree, long lines,
-/// large runs, listed limits, late receipts, relays, full inboxes, and first lines refused for each cause.
+/// large runs, listed limits, late receipts, relays, full inboxes, rings that are started without
+/// lists and then wind down, and first lines refused for each cause.
 const MIXED: usize = 2 * MIXES.len();
 const LATE: usize = 5;
-const TURNS: usize = MIXED + 8 + LATE + CAUSES;
+const TURNS: usize = MIXED + 9 + LATE + CAUSES;
 
 /// The log of a seed, of about `size` lines on the average.
 pub fn log(seed: u64, size: usize) -> Vec<u8> {
@@ -154,7 +155,11 @@ pub fn log(seed: u64, size: usize) -> Vec<u8> {
             let n = often_large(&mut rng, round);
             full_inbox(&mut rng, n).end(&mut rng, 0, NEAR_THE_END)
         }
-        cause => refused_start(&mut rng, cause - 8 - LATE, round),
+        13 => {
+            let n = often_large(&mut rng, round);
+            Writer::unlisted_ring(n).end(&mut rng, 0, NEAR_THE_END)
+        }
+        cause => refused_start(&mut rng, cause - 9 - LATE, round),
     }
 }
 

@@ -4,7 +4,7 @@ use super::faults::{damaged, wrapped};
 use super::rng::Rng;
 use super::starts::above;
 use super::updates::{listed_update, unknown};
-use super::writer::{random_ring_line, ring_line};
+use super::writer::{random_ring_line, ring_line, short_ring_line};
 use crate::log::LINE_BYTES;
 use crate::ring::MAX_NODES;
 use crate::table::UPDATES;
@@ -102,8 +102,12 @@ pub fn refused_update(rng: &mut Rng, cause: usize, turn: usize) -> Vec<u8> {
     };
     let beyond = above(rng, n - 1);
     let line = match cause {
-        0 => wrapped(unknown(rng), &ring_line(rng.pick(&[n, no_count]), &[], &[])),
-        1 => wrapped(update, &ring_line(no_count, &[], rng.pick(&[&[], &[96]]))),
+        0 => {
+            let n = rng.pick(&[n, no_count]);
+            wrapped(unknown(rng), &short_ring_line(rng, n))
+        }
+        1 if rng.chance(50) => wrapped(update, &short_ring_line(rng, no_count)),
+        1 => wrapped(update, &ring_line(no_count, &[], &[96])),
         2 if turn.is_multiple_of(2) => wrapped(update, &ring_line(n, &[beyond], &[])),
         2 => wrapped(update, &ring_line(n, &[], &[0, beyond])),
         3 => wrapped(

@@ -7,8 +7,8 @@ use super::model::{Model, RING_WORDS};
 use super::rng::Rng;
 use super::starts::above;
 use super::writer::{
-    full_line_of, line_of, of_one, random_request, random_ring_line, ring_line, spelled, Mix,
-    AGAIN, MOST_AGAIN,
+    full_line_of, line_of, of_one, random_request, random_ring_line, ring_line, short_ring_line,
+    spelled, Mix, AGAIN, MOST_AGAIN,
 };
 use crate::log::{Log, Run, LINE_BYTES, LINE_LIMIT};
 use crate::request::{Request, ANNOUNCE, SEND, TAKE};
@@ -191,8 +191,8 @@ impl Updates {
             1 => wrapped(unknown, &ring_line(other_n, &[beyond], &[])),
             2 | 3 => wrapped(unknown, &step_line(random_request(rng, n))),
             4 => wrapped(rng_update(rng), &step_line(random_request(rng, n))),
-            5 => wrapped(update, &ring_line(other_n, &[], &[])),
-            6 => wrapped(not_open, &ring_line(other_n, &[], &[])),
+            5 => wrapped(update, &short_ring_line(rng, other_n)),
+            6 => wrapped(not_open, &short_ring_line(rng, other_n)),
             7 => wrapped(update, &ring_line(other_n, &[], &[beyond])),
             8 => wrapped(update, &ring_line(n, &[0], &[0, beyond])),
             _ => listed_update(update, n, LINE_BYTES - 2 + rng.below(4)),

@@ -55,7 +55,12 @@ impl Writer {
         Self::new(&ring_line(n, active, black))
     }
 
-    /// A ring with random lists.
+    /// A ring without lists.
+    pub fn unlisted_ring(n: usize) -> Self {
+        Self::new(&unlisted_line(n))
+    }
+
+    /// A ring with random lists, or without.
     pub fn random_ring(rng: &mut Rng, n: usize) -> Self {
         Self::new(&random_ring_line(rng, n))
     }
@@ -205,23 +210,41 @@ fn random(rng: &mut Rng, model: &dyn Model, mix: Mix) -> Request {
     request
 }
 
-/// A ring's start.
+/// A ring's start with both lists.
 pub fn ring_line(n: usize, active: &[usize], black: &[usize]) -> Vec<u8> {
     let mut line = format!("(ring {n}").into_bytes();
-    if !active.is_empty() || !black.is_empty() || n.is_multiple_of(2) {
-        push_list(&mut line, " (active", active);
-        push_list(&mut line, " (black", black);
-    }
+    push_list(&mut line, " (active", active);
+    push_list(&mut line, " (black", black);
     line.extend_from_slice(b")\n");
     line
 }
 
-/// A ring's start with random lists.
+/// A ring's start without lists.
+fn unlisted_line(n: usize) -> Vec<u8> {
+    format!("(ring {n})\n").into_bytes()
+}
+
+/// A ring's start that names no node: without lists, or with both empty.
+pub fn short_ring_line(rng: &mut Rng, n: usize) -> Vec<u8> {
+    if rng.chance(50) {
+        unlisted_line(n)
+    } else {
+        ring_line(n, &[], &[])
+    }
+}
+
+/// A ring's start: without lists, with both empty, with what the first of these means, or with random ones mostly.
 pub fn random_ring_line(rng: &mut Rng, n: usize) -> Vec<u8> {
-    let (share_active, share_black) = (rng.below(101), rng.below(101));
-    let active: Vec<usize> = (0..n).filter(|_| rng.chance(share_active)).collect();
-    let black: Vec<usize> = (0..n).filter(|_| rng.chance(share_black)).collect();
-    ring_line(n, &active, &black)
+    match rng.below(100) {
+        0..=29 => short_ring_line(rng, n),
+        30..=34 => ring_line(n, &(0..n).collect::<Vec<_>>(), &[]),
+        _ => {
+            let (share_active, share_black) = (rng.below(101), rng.below(101));
+            let active: Vec<usize> = (0..n).filter(|_| rng.chance(share_active)).collect();
+            let black: Vec<usize> = (0..n).filter(|_| rng.chance(share_black)).collect();
+            ring_line(n, &active, &black)
+        }
+    }
 }
 
 fn push_list(line: &mut Vec<u8>, word: &str, list: &[usize]) {

@@ -5,10 +5,11 @@ mod cases;
 mod spellings;
 mod starts;
 mod steps;
+mod unlisted;
 mod updates;
 
 use crate::bounds::logs::{
-    ACCEPTED_PART, ANNOUNCED_IN_ALL, NO_FORM_PART, ON_ALL, ON_LARGE, SPELLINGS, WIDTHS,
+    ACCEPTED_PART, ANNOUNCED_IN_ALL, NO_FORM_PART, ON_ALL, ON_LARGE, SPELLINGS, UNLISTED, WIDTHS,
 };
 use crate::bounds::{self, Met};
 use crate::forms;
@@ -21,6 +22,7 @@ use cases::{Cases, RingCases, TreeCases};
 use spellings::Spellings;
 use starts::Starts;
 use steps::{Steps, Words};
+use unlisted::Unlisted;
 use updates::Updates;
 
 /// Numbers of answers: 0 is an accepted line, 1 to 13 but 7 are the refusals.
@@ -130,6 +132,7 @@ pub struct Tally {
     updates: Updates,
     /// Lines of updates in bare logs.
     misplaced: usize,
+    unlisted: Unlisted,
 }
 
 impl Tally {
@@ -138,6 +141,7 @@ impl Tally {
         let mut log = Log::new();
         let mut answers = split(output).map(number_of);
         self.logs += 1;
+        self.unlisted.begin_log();
         if input.is_empty() {
             self.starts.count(input, NOT_A_FORM);
         }
@@ -148,8 +152,12 @@ impl Tally {
             }
             let answer = answers.next().expect("an answer to each line that is read");
             self.count_line(log.run(), line, answer);
+            if answer == 0 {
+                self.unlisted.count_accepted(line);
+            }
             log.feed(line, &mut Vec::new());
         }
+        self.unlisted.end_log(input, output);
     }
 
     fn count_line(&mut self, run: &Run, line: &[u8], answer: usize) {
@@ -198,6 +206,7 @@ impl Tally {
 
     pub fn report(&self, report: &mut Report) {
         self.starts.report(report);
+        self.unlisted.report("logs", &UNLISTED, report);
         let announced = self.both(Steps::announced);
         report.at_least("logs announced", announced, ANNOUNCED_IN_ALL);
         self.ring.report(report);
@@ -209,6 +218,8 @@ impl Tally {
     /// What is asked of the logs of updates, and of bare logs with lines of updates.
     pub fn report_updates(&self, report: &mut Report) {
         self.updates.report(report);
+        self.unlisted
+            .report("updates", &bounds::updates::UNLISTED, report);
         report.at_least(
             "lines of updates in bare logs",
             self.misplaced,

@@ -4,7 +4,7 @@
 use crate::repository::{in_thousands, joined, lost_phrases, places_of, read, section, tables};
 use second::bounds::{
     answers, calls, independence, logs, own_trees, soundness, tables, texts, updates, Asked,
-    OwnAsked, TakesAsked, LARGE_RINGS, LARGE_TREES,
+    OwnAsked, TakesAsked, UnlistedAsked, LARGE_RINGS, LARGE_TREES,
 };
 use second::log::{LINE_BYTES, LINE_LIMIT};
 use second::refusal::Refusal;
@@ -429,6 +429,20 @@ fn own() -> Vec<Vec<String>> {
     ]
 }
 
+/// A row of the table of starts without lists.
+fn unlisted_row(name: &str, asked: &UnlistedAsked) -> Vec<String> {
+    let figures = [asked.starts, asked.announced, asked.told].map(in_thousands);
+    [name.to_owned()].into_iter().chain(figures).collect()
+}
+
+/// The rows of the table of starts without lists, which is the section's fifth.
+fn unlisted() -> Vec<Vec<String>> {
+    vec![
+        unlisted_row("logs, rings", &logs::UNLISTED),
+        unlisted_row("logs, updates", &updates::UNLISTED),
+    ]
+}
+
 /// The section without the table of sizes and those after it.
 fn text(page: &str) -> String {
     let text = section(page, HEADING);
@@ -496,6 +510,13 @@ fn the_table_of_messages_to_oneself_is_what_is_asked() {
     let page = page();
     let found = tables(section(&page, HEADING));
     assert_eq!(found.get(3).map(|table| &table[1..]), Some(&own()[..]));
+}
+
+#[test]
+fn the_table_of_starts_without_lists_is_what_is_asked() {
+    let page = page();
+    let found = tables(section(&page, HEADING));
+    assert_eq!(found.get(4).map(|table| &table[1..]), Some(&unlisted()[..]));
 }
 
 fn logs_ranges() -> Vec<String> {

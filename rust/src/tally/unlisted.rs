@@ -1,0 +1,143 @@
+//! Starts without lists: how many, and the wrong readings of them that the logs tell apart.
+
+use super::split;
+use crate::bounds::UnlistedAsked;
+use crate::forms::{self, First, RingStart, Wrapped};
+use crate::log::run;
+use crate::report::Report;
+use crate::request::ANNOUNCE;
+use crate::table::UPDATES;
+use std::ops::Range;
+
+/// Wrong readings of a start of n nodes without lists: which would be active, and which black.
+type Reading = fn(usize) -> [Range<usize>; 2];
+const WRONG: [(&str, Reading); 4] = [
+    ("passive", |_| [0..0, 0..0]),
+    ("node 0 alone active", |_| [0..1, 0..0]),
+    ("all but the last active", |n| [0..n - 1, 0..0]),
+    ("active and black", |n| [0..n, 0..n]),
+];
+
+#[derive(Default)]
+pub struct Unlisted {
+    /// Starts accepted: without lists, and with both empty.
+    starts: usize,
+    empty: usize,
+    /// Announcements of what was started without lists.
+    announced: usize,
+    /// Logs whose answers are others by each wrong reading.
+    told: [usize; WRONG.len()],
+    /// Of the log that is being counted: has it such a start, and what of it was started so last. A ring is in the place of update 0.
+    is_met: bool,
+    is_unlisted: [bool; UPDATES],
+}
+
+impl Unlisted {
+    pub fn begin_log(&mut self) {
+        (self.is_met, self.is_unlisted) = (false, [false; UPDATES]);
+    }
+
+    /// Counts a line that was accepted.
+    pub fn count_accepted(&mut self, line: &[u8]) {
+        match forms::first(line) {
+            Ok(First::Ring(start)) => self.count_start(0, &start),
+            Ok(First::Update(update, start)) => self.count_start(update, &start),
+            _ => {
+                let announced = announced_by(line).is_some_and(|update| self.is_unlisted[update]);
+                self.announced += usize::from(announced);
+            }
+        }
+    }
+
+    fn count_start(&mut self, update: usize, start: &RingStart) {
+        let is_unlisted = start.lists.is_none();
+        let names_none = |list: &forms::Lists| list.active.is_empty() && list.black.is_empty();
+        self.starts += usize::from(is_unlisted);
+        self.empty += usize::from(start.lists.as_ref().is_some_and(names_none));
+        self.is_met |= is_unlisted;
+        self.is_unlisted[update] = is_unlisted;
+    }
+
+    /// Reads the log once more, its starts without lists in each wrong way.
+    pub fn end_log(&mut self, input: &[u8], output: &[u8]) {
+        if self.is_met {
+            for (count, (_, reading)) in self.told.iter_mut().zip(WRONG) {
+                *count += usize::from(run(&reread(input, reading)) != output);
+            }
+        }
+    }
+
+    pub fn report(&self, of: &str, asked: &UnlistedAsked, report: &mut Report) {
+        let starts = [
+            ("without lists", self.starts),
+            ("with both empty", self.empty),
+        ];
+        let starts = starts.map(|(how, count)| (format!("{of}: starts {how}"), count));
+        report.each_at_least(asked.starts, starts);
+        let name = format!("{of}: announced after a start without lists");
+        report.at_least(name, self.announced, asked.announced);
+        let told = WRONG.iter().zip(self.told);
+        let told = told.map(|((reading, _), count)| {
+            let name = format!("{of}: logs answered otherwise if no lists meant {reading}");
+            (name, count)
+        });
+        report.each_at_least(asked.told, told);
+    }
+}
+
+/// The update that a line announces, a ring's being in the place of update 0.
+fn announced_by(line: &[u8]) -> Option<usize> {
+    let (update, request) = match forms::wrapped(line) {
+        Ok((update, Wrapped::Step(request))) => (update, request),
+        _ => (0, forms::of_ring(line).ok()?),
+    };
+    (request.kind == ANNOUNCE).then_some(update)
+}
+
+/// A log with lists in every start that has none.
+fn reread(input: &[u8], reading: Reading) -> Vec<u8> {
+    let mut out = Vec::new();
+    for line in split(input) {
+        match forms::first(line) {
+            Ok(First::Ring(start) | First::Update(_, start)) if is_readable(&start) => {
+                let n = start.n;
+                let [active, black] = reading(n).map(|nodes| nodes.map(|i| format!(" {i}")));
+                let [active, black] = [active, black].map(String::from_iter);
+                let lists = format!("(ring {n} (active{active}) (black{black}))");
+                let text = String::from_utf8_lossy(line);
+                out.extend(text.replace(&format!("(ring {n})"), &lists).bytes());
+            }
+            _ => out.extend_from_slice(line),
+        }
+    }
+    out
+}
+
+/// A start without lists whose number of nodes is in range.
+fn is_readable(start: &RingStart) -> bool {
+    start.lists.is_none() && start.flags().is_ok()
+}
+
+#[cfg(test)]
+mod tests {
+    use super::{reread, WRONG};
+
+    #[test]
+    fn starts_are_read_wrongly() {
+        let log = b"(update 1 (ring 2))\n(update 1 (probe))\n(ring 97)\n(ring 3 (active 1) (black))\n(ring 2";
+        let readings = [
+            "(active) (black)",
+            "(active 0) (black)",
+            "(active 0) (black)",
+            "(active 0 1) (black 0 1)",
+        ];
+        for ((_, reading), lists) in WRONG.iter().zip(readings) {
+            let reread = String::from_utf8(reread(log, *reading)).expect("lines of ASCII");
+            let log = String::from_utf8_lossy(log);
+            assert_eq!(
+                reread,
+                log.replacen("(ring 2)", &format!("(ring 2 {lists})"), 1)
+            );
+        }
+    }
+}
