@@ -51,11 +51,15 @@ pub struct OwnAsked {
 
 /// Starts of rings without lists.
 pub struct UnlistedAsked {
-    /// Accepted; and as many with both lists empty.
-    pub starts: usize,
+    /// Accepted in first lines, and later; as many each with both lists empty.
+    pub first: usize,
+    pub later: Option<usize>,
+    /// Accepted on large rings.
+    pub large: usize,
     pub announced: usize,
-    /// Logs whose answers are others by each wrong reading of such a start.
-    pub told: usize,
+    /// Logs whose answers are others by each wrong reading of which nodes are active, and of their color.
+    pub activity: usize,
+    pub color: usize,
 }
 
 /// What one detector's lines after the first have to meet, on all sizes or on the large ones.
@@ -145,9 +149,12 @@ pub mod logs {
         announced: None,
     };
     pub const UNLISTED: UnlistedAsked = UnlistedAsked {
-        starts: 100,
-        announced: 90,
-        told: 30,
+        first: 100,
+        later: None,
+        large: 50,
+        announced: 100,
+        activity: 100,
+        color: 30,
     };
     /// Each spelling of a take.
     pub const SPELLINGS: usize = 50;
@@ -225,9 +232,12 @@ pub mod updates {
         announced: Some(300),
     };
     pub const UNLISTED: UnlistedAsked = UnlistedAsked {
-        starts: 3_000,
+        first: 100,
+        later: Some(3_000),
+        large: 1_000,
         announced: 1_200,
-        told: 600,
+        activity: 800,
+        color: 600,
     };
     /// Each spelling of a take.
     pub const SPELLINGS: usize = 50;

@@ -460,7 +460,7 @@ fn the_longest_useful_start() {
 
 #[test]
 fn lines_past_the_limit_are_not_read() {
-    let mut log = b"(ring 2)\n".to_vec();
+    let mut log = b"(ring 2 (active) (black))\n".to_vec();
     log.extend(b"(x)\n".repeat(LINE_LIMIT as usize - 2));
     log.extend(b"(probe)\n(pass 1)\n");
     let text = answers(&log);

@@ -251,7 +251,7 @@ fn the_wrapping_counts_to_the_longest_line() {
 
 #[test]
 fn lines_past_the_limit_are_not_read() {
-    let mut log = b"(update 7 (ring 2))\n".to_vec();
+    let mut log = b"(update 7 (ring 2 (active) (black)))\n".to_vec();
     log.extend(b"(x)\n".repeat(LINE_LIMIT as usize - 2));
     log.extend(b"(update 7 (probe))\n(update 7 (pass 1))\n(update 0 (ring 2))\n");
     assert!(answers(&log).ends_with(

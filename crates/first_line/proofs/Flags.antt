@@ -7,7 +7,7 @@ use mathlib.Core.Path.{_≡_, refl, subst⁻¹}
 use native.Mathlib.Omega.{arith}
 use Rattle.forms.specs.Form.{SmallForm}
 use Rattle.forms.specs.Read.{Read, other, read}
-use Rattle.first_line.proofs.Meaning.{flag-mean, lists-mean}
+use Rattle.first_line.proofs.Meaning.{rings-mean}
 use Rattle.first_line.proofs.Opens.{first-exact}
 use Rattle.first_line.specs.Meaning.{Flags, flagByte, named}
 use Rattle.first_line.specs.Read.{firstAt}
@@ -36,8 +36,8 @@ pub start-flags : (f : starts.Start) (e : ℕ) → SmallForm (starts.startForm f
 start-flags (starts.bare n) e v = one-flags
 start-flags (starts.tree n root) e v = zero-flags
 start-flags (starts.lists n a b) e v = record {
-  places = lists-mean n a b e (v .1) (v .2) .many;
-  small = λ i h. subst⁻¹ (λ (x : ℕ). x ≤ 3) (flag-mean a b i h (v .1) (v .2)) (flag-small (named a i) (named b i));
+  places = rings-mean .both n a b e (v .1) (v .2) .many;
+  small = λ i h. subst⁻¹ (λ (x : ℕ). x ≤ 3) (rings-mean .both n a b e (v .1) (v .2) .flag i h h) (flag-small (named a i) (named b i));
 }
 
 pub seen-flags : (l : List ℕ) (at : ℕ) → Flags (starts.seenOf (firstAt l at) .flags)

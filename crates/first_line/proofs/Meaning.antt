@@ -13,8 +13,9 @@ use native.Mathlib.Decide.{ℕ-discrete}
 use borrow.Author.Tests.{lt-ltb, eq-eqb, ne-eqb, eqb-true, eqb-false}
 use Rattle.decimal.specs.Number.{numberLimit}
 use Rattle.forms.specs.Form.{Ascending}
-use Rattle.first_line.specs.Start.{bare, lists, zeros, flagged, flagAll, topOf, seen}
-use Rattle.first_line.specs.Meaning.{named, nodesFrom, everyNode, Below, flagByte, Means}
+use Rattle.first_line.specs.declared.First.{First}
+use Rattle.first_line.specs.Start.{zeros, flagged, flagAll, topOf}
+use Rattle.first_line.specs.Meaning.{named, nodesFrom, everyNode, Below, flagByte, Means, RingsMean}
 
 -- 1. top is at most n exactly if every node named is below n
 top-below : (ks : List ℕ) (t n : ℕ) → (topOf ks t ≤ n) ↔ ((t ≤ n) × Below n ks)
@@ -87,7 +88,7 @@ two-bits true false = refl
 two-bits false true = refl
 two-bits true true = refl
 
-pub flag-mean : (active black : List ℕ) (i : ℕ) → i < 96 → Ascending 0 active → Ascending 0 black
+flag-mean : (active black : List ℕ) (i : ℕ) → i < 96 → Ascending 0 active → Ascending 0 black
     → getD (flagAll 2 black (flagAll 1 active zeros)) i 0 ≡ flagByte (named active i) (named black i)
 flag-mean a b i h ha hb =
     let z : getD zeros i 0 ≡ 0 = getD-replicate 96 i 0 0 h in
@@ -127,18 +128,20 @@ pub every-ascends : (n : ℕ) → n ≤ numberLimit + 1 → Ascending 0 (everyNo
 every-ascends n h = from-ascends n 0 (omega arith)
 
 -- 4. the answer to a ring line
-pub lists-mean : (n : ℕ) (active black : List ℕ) (e : ℕ) → Ascending 0 active → Ascending 0 black
-    → Means active black (seen (lists n active black) e)
-lists-mean n a b e ha hb = record {
-  many = all-length 2 b (flagAll 1 a zeros) ∙ (all-length 1 a zeros ∙ length-replicate {A = ℕ} 96 0);
-  flag = λ i _ h. flag-mean a b i h ha hb;
-  most = top-mean a b;
+pub rings-mean : RingsMean
+rings-mean = record {
+  both = λ n a b e ha hb. record {
+    many = all-length 2 b (flagAll 1 a zeros) ∙ (all-length 1 a zeros ∙ length-replicate {A = ℕ} 96 0);
+    flag = λ i _ h. flag-mean a b i h ha hb;
+    most = top-mean a b;
+  };
+  neither = λ n e. record {
+    many = length-replicate {A = ℕ} 96 1;
+    flag = λ i h k. getD-replicate 96 i 1 0 k ∙ sym (ap (λ (t : Bool). flagByte t false) (named-every n i h));
+    most = λ m. (λ h. (every-below n m .0 h, tt), λ b. every-below n m .1 (b .0));
+  };
 }
 
--- Q-6: "all active and white"
-pub bare-mean : (n e : ℕ) → Means (everyNode n) [] (seen (bare n) e)
-bare-mean n e = record {
-  many = length-replicate {A = ℕ} 96 1;
-  flag = λ i h k. getD-replicate 96 i 1 0 k ∙ sym (ap (λ (t : Bool). flagByte t false) (named-every n i h));
-  most = λ m. (λ h. (every-below n m .0 h, tt), λ b. every-below n m .1 (b .0));
-}
+-- as far as the nodes of the ring go
+pub nodes-mean : {a b : List ℕ} {r : First} (n : ℕ) → Means 96 a b r → Means n a b r
+nodes-mean n m = record { many = m .many; flag = λ i _ h. m .flag i h h; most = m .most }

@@ -47,7 +47,7 @@ pub says-itself : (f : Form) (l : List ℕ) → OneLine l → Says (line l) f �
 says-itself f l o s = (sym (ended-itself o) ∙ s .0, s .1)
 
 -- a line says one form
-same-form : (l : List ℕ) (f g : Form) → Says l f → Says l g → f ≡ g
+pub same-form : (l : List ℕ) (f g : Form) → Says l f → Says l g → f ≡ g
 same-form l f g s t = grammar .once f g (s .1) (t .1) (sym (s .0) ∙ t .0)
 
 seen-told : (f : Start) (e : ℕ) (w : Read Wrapped) → freshTold (seen f e .kind) (seen f e) w ≡ firstTold (seen f 0 .kind) (seen f 0)

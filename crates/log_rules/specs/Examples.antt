@@ -94,8 +94,8 @@ examples =
           ++ bytes "(update 0 (end (boards 2) (holder 0) (moves 0) (flight 0) (black 0)))\n"
           ++ bytes "(update 1 (end (boards 2) (holder 0) (moves 0) (flight 0) (black 1)))\n";
     }
-    -- three updates interleaved: another N, an update that is not started, a bare step; update 2 is started afresh after two token moves, and a
-    -- start that is refused leaves it; 9 and 8 are no updates; update 0 is announced; a bare start
+    -- three updates interleaved: another N, an update that is not started, a step of none; update 2 is started afresh after two token moves, and a
+    -- start that is refused leaves it; 9 and 8 are no updates; update 0 is announced; a start of none
     ∷ record {
       log =
           bytes "(update 2 (ring 2 (active) (black 1)))\n(update 0 (ring 3))\n(update 0 (ring 2 (active) (black)))\n"
@@ -108,7 +108,7 @@ examples =
           ++ bytes "(update 0 (end (boards 2) (holder 0) (moves 2) (flight 0) (black 0)))\n"
           ++ bytes "(update 2 (end (boards 2) (holder 0) (moves 0) (flight 1) (black 0)))\n";
     }
-    -- wrapped lines in a bare log
+    -- wrapped lines in the log of one ring
     ∷ record {
       log = bytes "(ring 2)\n(update 0 (ring 2))\n(update 0 (probe))\n(probe)\n";
       output = bytes "(ok 1)\n(no 2 10)\n(no 3 10)\n(ok 4)\n(end (boards 2) (holder 1) (moves 1) (flight 0) (black 0))\n";

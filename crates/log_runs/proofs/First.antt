@@ -10,7 +10,7 @@ use mathlib.Core.Logic.{_↔_, inl, inr, _⊎_}
 use mathlib.Core.Path.{_∙_, _≡_, ap, refl, subst, subst⁻¹, sym}
 use native.Mathlib.Decide.{decLt}
 use native.Mathlib.Omega.{arith}
-use Rattle.first_line.proofs.Meaning.{bare-mean, lists-mean}
+use Rattle.first_line.proofs.Meaning.{nodes-mean, rings-mean}
 use Rattle.first_line.proofs.Opens.{first-exact, first-other}
 use Rattle.first_line.specs.Meaning.{Below, Means, everyNode, flagByte, named}
 use Rattle.first_line.specs.Read.{firstAt}
@@ -218,7 +218,7 @@ opened-same Accepted e = ap (openedBy Accepted) (e refl)
 opened-same (Refused x) e = refl
 
 -- the top of a ring's lists is past n exactly if a node that they name is none
-top-known : (n : ℕ) (a b : List ℕ) {f : First} → Means a b f → ltb n (f .top) ≡ not (knownBy n a b)
+top-known : (n : ℕ) (a b : List ℕ) {p : ℕ} {f : First} → Means p a b f → ltb n (f .top) ≡ not (knownBy n a b)
 top-known n a b {f} m = go (knownBy n a b) refl (split (ltb n (f .top)))
   where
     go : (k : Bool) → knownBy n a b ≡ k → (ltb n (f .top) ≡ true) ⊎ (ltb n (f .top) ≡ false) → ltb n (f .top) ≡ not k
@@ -231,7 +231,7 @@ top-known n a b {f} m = go (knownBy n a b) refl (split (ltb n (f .top)))
         absurd (false-true (sym e ∙ both-true (below-test n a .1 (w .0)) (below-test n b .1 (w .1))))
 
 -- its flags are those of the lists
-flags-same : (a b : List ℕ) {f : First} → Means a b f → f .n ≤ 96 → take (f .n) (f .flags) ≡ flagsTo a b (f .n)
+flags-same : (a b : List ℕ) {f : First} → Means (f .n) a b f → f .n ≤ 96 → take (f .n) (f .flags) ≡ flagsTo a b (f .n)
 flags-same a b {f} m h =
     let len = length-take-le (f .n) (f .flags) (omega (arith, m .many)) in
     ext-getD 0 (take (f .n) (f .flags)) (flagsTo a b (f .n)) (len ∙ sym (flags-length a b (f .n)))
@@ -240,7 +240,7 @@ flags-same a b {f} m h =
     getD-take (f .n) (f .flags) i 0 j ∙ (m .flag i j (omega arith) ∙ sym (flags-at a b (f .n) i j)))
 
 ring-told :
-    (n top e : ℕ) (flags a b : List ℕ) → Means a b (ringFirst n flags top e)
+    (n top e : ℕ) (flags a b : List ℕ) → Means n a b (ringFirst n flags top e)
     → firstTold (ringFirst n flags top e .kind) (ringFirst n flags top e)
     ≡ openedBy (firstVerdict (StartAsk.ring-start n a b)) (begun (StartAsk.ring-start n a b))
 ring-told n top e flags a b m =
@@ -275,13 +275,13 @@ tree-told n root =
 start-told :
     {l : List ℕ} (f : Start) → Says l (startForm f)
     → firstTold (seen f 0 .kind) (seen f 0) ≡ openedBy (firstVerdict (meant (inl f))) (begun (meant (inl f)))
-start-told (bare n) s = ring-told n _ 0 _ (everyNode n) [] (bare-mean n 0)
-start-told (lists n a b) s = ring-told n _ 0 _ a b (lists-mean n a b 0 (s .1 .0 .1) (s .1 .0 .2))
+start-told (bare n) s = ring-told n _ 0 _ (everyNode n) [] (rings-mean .neither n 0)
+start-told (lists n a b) s = ring-told n _ 0 _ a b (nodes-mean n (rings-mean .both n a b 0 (s .1 .0 .1) (s .1 .0 .2)))
 start-told (tree n root) s = tree-told n root
 
 -- ---- a start of an update, as it was read
 
-module _ (t : Table) (u n top e : ℕ) (flags a b : List ℕ) (m : Means a b (ringFirst n flags top e)) where
+module _ (t : Table) (u n top e : ℕ) (flags a b : List ℕ) (m : Means n a b (ringFirst n flags top e)) where
   abbrev seenFirst : First
   seenFirst = ringFirst n flags top e
 
@@ -296,7 +296,7 @@ module _ (t : Table) (u n top e : ℕ) (flags a b : List ℕ) (m : Means a b (ri
   update-after v = ap (λ (x : List ℕ). after t (table.Start u n x)) (flags-same a b m (update-passed t u n a b v .0))
 
 update-told :
-    (u n top e : ℕ) (flags a b : List ℕ) → Means a b (ringFirst n flags top e)
+    (u n top e : ℕ) (flags a b : List ℕ) → Means n a b (ringFirst n flags top e)
     → updateOpened u (ringFirst n flags top e)
     ≡ openedBy (firstVerdict (StartAsk.update-start u n a b)) (begun (StartAsk.update-start u n a b))
 update-told u n top e flags a b m =
@@ -311,11 +311,11 @@ wrapped-told :
     {l : List ℕ} (w : Wrapped) → Says l (wrappedForm w)
     → updateFirst (read.read w 0) ≡ openedBy (firstVerdict (meant (inr w))) (begun (meant (inr w)))
 wrapped-told (wrapped.step u f) s = refl
-wrapped-told (wrapped.bare u n) s = update-told u n _ 0 _ (everyNode n) [] (bare-mean n 0)
-wrapped-told (wrapped.lists u n a b) s = update-told u n _ 0 _ a b (lists-mean n a b 0 (s .1 .0 .1 .1) (s .1 .0 .1 .2))
+wrapped-told (wrapped.bare u n) s = update-told u n _ 0 _ (everyNode n) [] (rings-mean .neither n 0)
+wrapped-told (wrapped.lists u n a b) s = update-told u n _ 0 _ a b (nodes-mean n (rings-mean .both n a b 0 (s .1 .0 .1 .1) (s .1 .0 .1 .2)))
 
-pub first-told : {l : List ℕ} {a : StartAsk} → FirstAsks l a → lineTold fresh 1 l ≡ openedBy (firstVerdict a) (begun a)
-first-told {l} (says (inl f) s) = lines-say .first 1 l f s ∙ start-told f s
-first-told {l} (says (inr w) s) = lines-say .first-update 1 l w s ∙ wrapped-told w s
-first-told {l} (other o h) = lines-say .first-other 1 l o (λ f. h (inl f)) (λ w. h (inr w))
-first-told {l} (cut u) = lines-say .unended fresh 1 l u
+pub first-told : (k : ℕ) {l : List ℕ} {a : StartAsk} → FirstAsks l a → lineTold fresh k l ≡ openedBy (firstVerdict a) (begun a)
+first-told k {l} (says (inl f) s) = lines-say .first k l f s ∙ start-told f s
+first-told k {l} (says (inr w) s) = lines-say .first-update k l w s ∙ wrapped-told w s
+first-told k {l} (other o h) = lines-say .first-other k l o (λ f. h (inl f)) (λ w. h (inr w))
+first-told k {l} (cut u) = lines-say .unended fresh k l u

@@ -20,7 +20,7 @@ use Rattle.forms.specs.declared.RingLine.{RingLine}
 use Rattle.forms.specs.declared.RingStep.{RingStep}
 use Rattle.forms.specs.declared.TreeLine.{TreeLine}
 use Rattle.laws.proofs.Tests.{both}
-use Rattle.first_line.proofs.Flags.{seen-flags, one-flags}
+use Rattle.first_line.proofs.Flags.{one-flags, seen-flags}
 use Rattle.log_rules.proofs.First.{flags-fit, update-verdict}
 use Rattle.log_rules.proofs.Theorems.{lines-say}
 use Rattle.log_rules.specs.Answers.{Stage, Told, answerText, firstTold, fresh, freshTold, isMove, lineTold, noMoves, onRing, onTable, onTree, openedBy, ringRequest, ringTable, ringTold, treeRequest, treeTold, updateAsk, updateFirst, updateOpened, updateTable}
@@ -342,7 +342,7 @@ log-runs = record {
   output = output;
   first-asks = asks;
   first-once = λ {l} p q. asks-once (opening-once l) p q;
-  first-told = first-told;
+  first-told = first-told 1;
   ring-started = ring-accepted;
   tree-started = tree-accepted;
   update-started = update-accepted;

@@ -196,19 +196,21 @@ module _
             count = count-ok u i (start w m a b) e ok;
           })
 
-  by-ask : (u i : ℕ) (a : UpdateAsk) → getD qs i no-step ≡ request a → LineOf u i
+  -- what a line adds that asks for a, by the verdict on it
+  adds : (i : ℕ) (a : UpdateAsk) → getD qs i no-step ≡ request a → {r : Verdict} → verdictOf (here i) a ≡ r
+      → one i ≡ map tableAsk (settle r (a ∷ []) [])
   unfolding acceptedOf
+  adds i a e p =
+      one-is i
+      ∙ (ap (λ (q : Ask UpdateAsk). map tableAsk (acceptedOf updates (here i) (requestsIn (q ∷ [])))) e
+      ∙ ap (λ (r : Verdict). map tableAsk (settle r (a ∷ []) [])) p)
+
+  by-ask : (u i : ℕ) (a : UpdateAsk) → getD qs i no-step ≡ request a → LineOf u i
   by-ask u i a e = go (verdictOf (here i) a) refl
     where
-      added : one i ≡ map tableAsk (settle (verdictOf (here i) a) (a ∷ []) [])
-      added = one-is i ∙ ap (λ (q : Ask UpdateAsk). map tableAsk (acceptedOf updates (here i) (requestsIn (q ∷ [])))) e
-
       go : (r : Verdict) → verdictOf (here i) a ≡ r → LineOf u i
-      go Accepted p =
-          accepted-line u i a e (ap (answered.verdictOn updates (here i)) e ∙ p) (added ∙ ap (λ (r : Verdict). map tableAsk (settle r (a ∷ []) [])) p)
-      go (Refused r) p =
-          nothing u i (added ∙ ap (λ (r : Verdict). map tableAsk (settle r (a ∷ []) [])) p)
-          (λ ok. not-both (sym (ap (answered.verdictOn updates (here i)) e) ∙ ok) p)
+      go Accepted p = accepted-line u i a e (ap (answered.verdictOn updates (here i)) e ∙ p) (adds i a e p)
+      go (Refused r) p = nothing u i (adds i a e p) (λ ok. not-both (sym (ap (answered.verdictOn updates (here i)) e) ∙ ok) p)
 
   line-of : (u i : ℕ) → LineOf u i
   unfolding acceptedOf
@@ -315,6 +317,30 @@ module _
 
   abbrev past : ℕ → ℕ → History
   past u i = historyOf u emptyTable (made first qs i)
+
+  -- as long as no line starts u, its history begins where it did
+  still-began : (u i j : ℕ) → i ≤ j → NoStart first qs u i j → past u j .first ≡ past u i .first
+  still-began u i j h none =
+      ap (λ (h : History). h .first) (history-later u i j h ∙ history-on u (acc i j) (past u i) (no-starts u i j h none))
+
+  began-first : (u m : ℕ) (fl : List ℕ) → first ≡ Start u m fl → (i : ℕ) → NoStart first qs u 0 i → past u i .first ≡ Started (firstState m fl)
+  unfolding acceptedOf
+  began-first u m fl e i none =
+      still-began u 0 i (omega arith) none
+      ∙ (ap (λ (h : History). h .first) (first-history u [])
+      ∙ (ap (λ (a : asks.Ask). historyNext u (begun (slotAt emptyTable u)) a .first) e
+      ∙ ap (λ (b : Bool). cond b (begun (Started (firstState m fl))) (begun (slotAt emptyTable u)) .first) (eq-eqb u u refl)))
+
+  began :
+      (u k i : ℕ) (s : StartedAt first qs u k) → k < i → NoStart first qs u (suc k) i
+      → past u i .first ≡ Started (firstState (s .n) (flagsTo (s .active) (s .black) (s .n)))
+  began u k i s h none =
+      let a = start u (s .n) (s .active) (s .black) in
+      let granted : verdictOf (here k) a ≡ Accepted = sym (ap (answered.verdictOn updates (here k)) (s .asks)) ∙ s .ok in
+      still-began u (suc k) i (omega arith) none
+      ∙ (ap (λ (h : History). h .first) (history-next u k)
+      ∙ (ap (λ (l : List asks.Ask). historyIn u (past u k) l .first) (adds k a (s .asks) granted)
+      ∙ ap (λ (b : Bool). cond b (begun (Started (firstState (s .n) (flagsTo (s .active) (s .black) (s .n))))) (past u k) .first) (eq-eqb u u refl)))
 
   -- an accepted step of u is the last of its history
   step-history : (u i : ℕ) (x : Request) → one i ≡ Step u x ∷ [] → historyIn u (past u i) (one i) .taken ≡ past u i .taken ++ (x ∷ [])
@@ -587,6 +613,8 @@ module _
             ∙ (ap (λ (x : Table). answerText 1 Accepted ++ (answers updates t qs ++ tableEnd x moves)) table-end
             ∙ ap (λ (ms : List ℕ). answerText 1 Accepted ++ (answers updates t qs ++ tableEnd (tableAt first qs (length qs)) ms)) moves-end)));
         judged = judged;
+        began-first = began-first;
+        began = began;
         below-limit = never few;
         starts = λ i u m a b e k.
             ap (answered.verdictOn updates (here i)) e

@@ -10,7 +10,7 @@ use mathlib.Core.Logic.{_⊎_, inl, inr}
 use mathlib.Core.Path.{_∙_, _≡_, ap, refl, subst, sym}
 use native.Mathlib.Nat.{add-zero}
 use native.Mathlib.Omega.{arith}
-use Rattle.first_line.proofs.Meaning.{bare-mean, lists-mean}
+use Rattle.first_line.proofs.Meaning.{nodes-mean, rings-mean}
 use Rattle.first_line.specs.Meaning.{Means, everyNode}
 use Rattle.first_line.specs.Start.{ringFirst}
 use Rattle.forms.specs.Form.{Says}
@@ -73,7 +73,7 @@ settle-same Accepted z e = e refl
 settle-same (Refused r) z e = refl
 
 start-told :
-    (t : Table) (ms : List ℕ) (k u n top e : ℕ) (flags a b : List ℕ) → Means a b (ringFirst n flags top e) → {l : List ℕ}
+    (t : Table) (ms : List ℕ) (k u n top e : ℕ) (flags a b : List ℕ) → Means n a b (ringFirst n flags top e) → {l : List ℕ}
     → lineTold (onTable t ms) k l ≡ updateStartTold t ms k u (ringFirst n flags top e) → LineTold t ms k l (start u n a b)
 start-told t ms k u n top e flags a b m p =
     let f = ringFirst n flags top e in
@@ -97,9 +97,10 @@ line-told t ms k l (wrapped.step u f) s =
       there = ap (λ (x : Told). x .stage) e ∙ ap (onTable (nextTable t (Step u (ringRequest f)))) (step-moves ms u f v);
     }
 line-told t ms k l (wrapped.bare u n) s =
-    start-told t ms k u n _ _ _ (everyNode n) [] (bare-mean n 0) (lines-say .update-line t ms k l (wrapped.bare u n) s)
+    start-told t ms k u n _ _ _ (everyNode n) [] (rings-mean .neither n 0) (lines-say .update-line t ms k l (wrapped.bare u n) s)
 line-told t ms k l (wrapped.lists u n a b) s =
-    start-told t ms k u n _ _ _ a b (lists-mean n a b 0 (s .1 .0 .1 .1) (s .1 .0 .1 .2)) (lines-say .update-line t ms k l (wrapped.lists u n a b) s)
+    start-told t ms k u n _ _ _ a b (nodes-mean n (rings-mean .both n a b 0 (s .1 .0 .1 .1) (s .1 .0 .1 .2)))
+    (lines-say .update-line t ms k l (wrapped.lists u n a b) s)
 
 pub update-answers : (t : Table) (ms : List ℕ) (k : ℕ) (l : List ℕ) (a : Ask UpdateAsk) → UpdateAsks l a → Answers updates onTable t ms k l a
 update-answers t ms k l a (says w s) = let e = line-told t ms k l w s in record { text = e .text; moves′ = _; there = e .there }

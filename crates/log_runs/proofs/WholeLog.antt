@@ -68,7 +68,7 @@ module _ (s l : List ℕ) (ls : List (List ℕ)) (o : outputOf s ≡ linesTold f
   by-first : {v : Verdict} → firstVerdict a ≡ v → outputOf s ≡ openedBy v (begun a) .text ++ linesTold (openedBy v (begun a) .stage) 2 ls
   unfolding linesTold
   by-first {v} is =
-      let told = first-told f ∙ ap (λ (v : Verdict). openedBy v (begun a)) is in
+      let told = first-told 1 f ∙ ap (λ (v : Verdict). openedBy v (begun a)) is in
       o ∙ ap (λ (t : rules.Told). t .text ++ linesTold (t .stage) 2 ls) told
 
   refused : {x : Refusal} → firstVerdict a ≡ Refused x → outputOf s ≡ answerText 1 (Refused x)

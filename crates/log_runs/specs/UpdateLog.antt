@@ -1,6 +1,6 @@
 -- A LOG OF UPDATES (Q-1): what is printed for each of its lines and at its end, and demand 3 of that very log for each update by itself, in terms
 -- of its lines. Lines are numbered as in their answers: the lines after the first are lines 2 + i.
-use Prim.Native.Nat.{_*_, _+_, _-_, _<_, _≤_, ℕ}
+use Prim.Native.Nat.{_*_, _+_, _-_, _<_, _≤_, suc, ℕ}
 use lib.ListN.{getD, length}
 use mathlib.Core.Bool.{false, true}
 use mathlib.Core.List.{List, [], _++_, _∷_}
@@ -11,6 +11,7 @@ use Rattle.log_rules.specs.Answers.{answerText, tableEnd}
 use Rattle.log_rules.specs.Output.{outputOf}
 use Rattle.refusal.specs.Table.{codeOf}
 use Rattle.refusal.specs.declared.Verdict.the-variants.{Accepted}
+use Rattle.ring_rules.specs.Start.{firstState}
 use Rattle.ring_rules.specs.State.{State}
 use Rattle.ring_rules.specs.Theorems.{TokenMove}
 use Rattle.ring_runs.specs.Agreement.{Reachable, sendsMade, shown}
@@ -112,6 +113,13 @@ pub record UpdateLog (s : List ℕ) (lines : List (List ℕ)) (n : ℕ) (first :
       (i u m : ℕ) (active black : List ℕ) → getD asks i no-step ≡ request (start u m active black) → knownBy m active black ≡ true
       → verdictAt updates (tableBegun first) asks i
       ≡ verdictOn (tableAt first asks i) (Start u m (flagsTo active black m))
+  -- u's latest start, which the counts below are from: the first line's until a line starts u, and then that of the last line that did
+  pub began-first :
+      (u m : ℕ) (flags : List ℕ) → first ≡ Start u m flags → (i : ℕ) → NoStart first asks u 0 i
+      → historyOf u emptyTable (made first asks i) .first ≡ Started (firstState m flags)
+  pub began :
+      (u k i : ℕ) (s : StartedAt first asks u k) → k < i → NoStart first asks u (suc k) i
+      → historyOf u emptyTable (made first asks i) .first ≡ Started (firstState (s .n) (flagsTo (s .active) (s .black) (s .n)))
   -- no line is answered with 9
   pub below-limit : (i : ℕ) → codeOf (verdictAt updates (tableBegun first) asks i) ≢ 9
   -- `(update u (announce))` is answered with ok only if every node of u is passive and no message of u is in transit, counted from u's latest start

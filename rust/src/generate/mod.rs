@@ -67,7 +67,7 @@ const MIXES: [Mix; 10] = [
 /// Lines that are too long take much room, so few logs have them, and no large ones.
 const LONG_LINES: Mix = mix(0, 10, 20, Fault::Long);
 const FEW_LINES: usize = 200;
-/// Lines of updates in a bare log.
+/// Lines of updates in the log of one ring or tree.
 const WRAPPED_LINES: Mix = mix(0, 5, 10, Fault::Wrapped);
 /// A run that is nearly over from its beginning.
 const NEAR_THE_END: Mix = Mix {
@@ -163,11 +163,11 @@ pub fn log(seed: u64, size: usize) -> Vec<u8> {
     }
 }
 
-/// The seeds take turns here too: updates with each mix, long lines, large rings, a bare ring and a bare tree with lines
+/// The seeds take turns here too: updates with each mix, long lines, large rings, a ring and a tree with lines
 /// of updates, listed limits, full inboxes, and first lines refused for each cause.
 const UPDATE_TURNS: usize = MIXES.len() + 7 + UPDATE_CAUSES;
 
-/// The log of updates of a seed, of about `size` lines on the average; or a bare log with lines of updates.
+/// The log of updates of a seed, of about `size` lines on the average; or the log of a ring or a tree with such lines.
 pub fn updates_log(seed: u64, size: usize) -> Vec<u8> {
     let mut rng = Rng::new(!seed);
     let turn = (seed % UPDATE_TURNS as u64) as usize;
@@ -188,9 +188,9 @@ pub fn updates_log(seed: u64, size: usize) -> Vec<u8> {
             let n = rng.pick(&[9, 31, 64, ring::MAX_NODES]);
             interleaved(&mut rng, n, 4 * size, LARGE)
         }
-        bare @ (3 | 4) => {
+        one @ (3 | 4) => {
             let lines = lines.min(FEW_LINES);
-            started(&mut rng, bare).whole_run(&mut rng, lines, WRAPPED_LINES)
+            started(&mut rng, one).whole_run(&mut rng, lines, WRAPPED_LINES)
         }
         5 => update_limit(&mut rng, round),
         6 => {

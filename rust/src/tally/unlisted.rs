@@ -1,15 +1,16 @@
 //! Starts without lists: how many, and the wrong readings of them that the logs tell apart.
 
 use super::split;
-use crate::bounds::UnlistedAsked;
+use crate::bounds::{UnlistedAsked, LARGE_RINGS};
 use crate::forms::{self, First, RingStart, Wrapped};
 use crate::log::run;
 use crate::report::Report;
 use crate::request::ANNOUNCE;
+use crate::sizes::range_name;
 use crate::table::UPDATES;
 use std::ops::Range;
 
-/// Wrong readings of a start of n nodes without lists: which would be active, and which black.
+/// Wrong readings of a start of n nodes without lists: which would be active, and which black. The last is of their color.
 type Reading = fn(usize) -> [Range<usize>; 2];
 const WRONG: [(&str, Reading); 4] = [
     ("passive", |_| [0..0, 0..0]),
@@ -20,21 +21,25 @@ const WRONG: [(&str, Reading); 4] = [
 
 #[derive(Default)]
 pub struct Unlisted {
-    /// Starts accepted: without lists, and with both empty.
-    starts: usize,
-    empty: usize,
+    /// Starts accepted, in first lines and later: without lists, and with both empty.
+    starts: [usize; 2],
+    empty: [usize; 2],
+    /// Without lists on large rings.
+    large: usize,
     /// Announcements of what was started without lists.
     announced: usize,
     /// Logs whose answers are others by each wrong reading.
     told: [usize; WRONG.len()],
-    /// Of the log that is being counted: has it such a start, and what of it was started so last. A ring is in the place of update 0.
+    /// Of the log that is being counted: has a line been accepted, has one been such a start, and what was started so last. A ring is in the place of update 0.
+    is_begun: bool,
     is_met: bool,
     is_unlisted: [bool; UPDATES],
 }
 
 impl Unlisted {
     pub fn begin_log(&mut self) {
-        (self.is_met, self.is_unlisted) = (false, [false; UPDATES]);
+        (self.is_begun, self.is_met) = (false, false);
+        self.is_unlisted = [false; UPDATES];
     }
 
     /// Counts a line that was accepted.
@@ -47,13 +52,16 @@ impl Unlisted {
                 self.announced += usize::from(announced);
             }
         }
+        self.is_begun = true;
     }
 
     fn count_start(&mut self, update: usize, start: &RingStart) {
+        let place = usize::from(self.is_begun);
         let is_unlisted = start.lists.is_none();
         let names_none = |list: &forms::Lists| list.active.is_empty() && list.black.is_empty();
-        self.starts += usize::from(is_unlisted);
-        self.empty += usize::from(start.lists.as_ref().is_some_and(names_none));
+        self.starts[place] += usize::from(is_unlisted);
+        self.empty[place] += usize::from(start.lists.as_ref().is_some_and(names_none));
+        self.large += usize::from(is_unlisted && LARGE_RINGS.contains(&start.n));
         self.is_met |= is_unlisted;
         self.is_unlisted[update] = is_unlisted;
     }
@@ -68,20 +76,35 @@ impl Unlisted {
     }
 
     pub fn report(&self, of: &str, asked: &UnlistedAsked, report: &mut Report) {
-        let starts = [
-            ("without lists", self.starts),
-            ("with both empty", self.empty),
+        let places = [
+            ("first lines", Some(asked.first)),
+            ("later starts", asked.later),
         ];
-        let starts = starts.map(|(how, count)| (format!("{of}: starts {how}"), count));
-        report.each_at_least(asked.starts, starts);
+        for (place, (name, least)) in places.into_iter().enumerate() {
+            let Some(least) = least else { continue };
+            let counts = [
+                ("without lists", self.starts),
+                ("with both empty", self.empty),
+            ];
+            let figure =
+                |(how, counts): (&str, [usize; 2])| (format!("{of}: {name} {how}"), counts[place]);
+            report.each_at_least(least, counts.map(figure));
+        }
+        let name = format!(
+            "{of}: starts without lists of {}",
+            range_name("rings", &LARGE_RINGS)
+        );
+        report.at_least(name, self.large, asked.large);
         let name = format!("{of}: announced after a start without lists");
         report.at_least(name, self.announced, asked.announced);
-        let told = WRONG.iter().zip(self.told);
-        let told = told.map(|((reading, _), count)| {
+        let told = WRONG.iter().zip(self.told).map(|((reading, _), count)| {
             let name = format!("{of}: logs answered otherwise if no lists meant {reading}");
             (name, count)
         });
-        report.each_at_least(asked.told, told);
+        let mut told: Vec<(String, usize)> = told.collect();
+        let color = told.pop();
+        report.each_at_least(asked.activity, told);
+        report.each_at_least(asked.color, color);
     }
 }
 

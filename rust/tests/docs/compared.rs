@@ -431,8 +431,19 @@ fn own() -> Vec<Vec<String>> {
 
 /// A row of the table of starts without lists.
 fn unlisted_row(name: &str, asked: &UnlistedAsked) -> Vec<String> {
-    let figures = [asked.starts, asked.announced, asked.told].map(in_thousands);
-    [name.to_owned()].into_iter().chain(figures).collect()
+    let told = |asked: Option<usize>| asked.map_or("-".to_owned(), in_thousands);
+    let later = told(asked.later);
+    let [first, large, announced] = [asked.first, asked.large, asked.announced].map(in_thousands);
+    let [activity, color] = [asked.activity, asked.color].map(in_thousands);
+    vec![
+        name.to_owned(),
+        first,
+        later,
+        large,
+        announced,
+        activity,
+        color,
+    ]
 }
 
 /// The rows of the table of starts without lists, which is the section's fifth.

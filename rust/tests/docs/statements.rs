@@ -7,20 +7,14 @@ use crate::repository::{crates, files, read, top};
 use second::statements::STATEMENT_FILES;
 use std::collections::{BTreeMap, BTreeSet};
 
-/// Statements about one side of an equivalence, or about each of several inputs, and what proves them; their names do not follow the rule.
-const OTHERWISE: [(&str, &str, &str); 4] = [
+/// Statements about one side of an equivalence, and what proves them; their names do not follow the rule.
+const OTHERWISE: [(&str, &str, &str); 2] = [
     (
         "crates/decimal/specs/Exact.antt",
         "NumberAt",
         "number-exact",
     ),
     ("crates/decimal/specs/Exact.antt", "ShortAt", "short-exact"),
-    (
-        "crates/first_line/specs/Meaning.antt",
-        "Means",
-        "lists-mean",
-    ),
-    ("crates/first_line/specs/Meaning.antt", "Means", "bare-mean"),
 ];
 
 /// The texts of the files of a folder of all crates, by path from the top.
