@@ -1,7 +1,8 @@
 //! Which files of the crates' `specs/` hold statements; the others hold definitions.
 
-pub const STATEMENT_FILES: [&str; 9] = [
+pub const STATEMENT_FILES: [&str; 10] = [
     "Agreement",
+    "Bare",
     "Cases",
     "Exact",
     "Examples",

@@ -114,7 +114,7 @@ fn without_lists_all_nodes_are_active_and_white() {
     );
 }
 
-/// Each node in turn: before its idle it sends and does not let the token go, after it the other way round.
+/// Each node in turn: before its idle it does not let the token go; after it, it does, and does not send.
 #[test]
 fn without_lists_each_node_of_every_ring_is_active() {
     for n in 1..=MAX_NODES {

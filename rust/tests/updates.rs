@@ -43,12 +43,42 @@ fn an_announcement_is_of_its_update_and_a_fresh_start_reopens_it() {
     );
 }
 
-/// Request Q-6: in the first line and later, of an update that is new, open or announced.
+/// Request Q-6: in the first line and later, of an update that is new, open or announced. Both nodes are active, one round is white, and node 0 still active
+/// is enough to refuse the announcement.
 #[test]
 fn without_lists_all_nodes_of_an_update_are_active_and_white() {
+    let run = |u: usize| {
+        format!("(update {u} (send 0 1)), (update {u} (send 1 0)), (update {u} (ring 2)), (update {u} (idle 1)), (update {u} (idle 1)), (update {u} (probe)), (update {u} (pass 1)), (update {u} (announce)), (update {u} (idle 0)), (update {u} (announce))")
+    };
+    let answers = |line: usize| {
+        let at = |k: usize| line + k;
+        format!(
+            "(ok {}), (ok {}), (ok {}), (ok {}), (no {} 8), (ok {}), (ok {}), (no {} 8), (ok {}), (ok {})",
+            at(0), at(1), at(2), at(3), at(4), at(5), at(6), at(7), at(8), at(9)
+        )
+    };
+    let end = |u: usize| {
+        format!("(update {u} (end (boards 2) (holder 0) (moves 2) (flight 0) (black 0)))")
+    };
     check(
-        "(update 3 (ring 2)), (update 0 (ring 2)), (update 1 (ring 2 (active) (black))), (update 3 (send 1 0)), (update 0 (idle 1)), (update 0 (idle 0)), (update 1 (idle 0)), (update 0 (probe)), (update 0 (pass 1)), (update 0 (announce)), (update 0 (ring 2)), (update 0 (idle 0)), (update 1 (ring 2)), (update 1 (idle 1)), (update 1 (announce))",
-        "(ok 1), (ok 2), (ok 3), (ok 4), (ok 5), (ok 6), (no 7 8), (ok 8), (ok 9), (ok 10), (ok 11), (ok 12), (ok 13), (ok 14), (no 15 8), (update 0 (end (boards 2) (holder 0) (moves 0) (flight 0) (black 0))), (update 1 (end (boards 2) (holder 0) (moves 0) (flight 0) (black 0))), (update 3 (end (boards 2) (holder 0) (moves 0) (flight 1) (black 0)))",
+        &format!(
+            "(update 3 (ring 2)), {}, (update 0 (ring 2)), {}, (update 3 (ring 2)), {}",
+            run(3),
+            run(0),
+            run(3)
+        ),
+        &format!(
+            "(ok 1), {}, (ok 12), {}, (ok 23), {}, {}, {}",
+            answers(2),
+            answers(13),
+            answers(24),
+            end(0),
+            end(3)
+        ),
+    );
+    check(
+        "(update 1 (ring 2 (active) (black))), (update 1 (idle 0)), (update 1 (ring 2)), (update 1 (idle 0)), (update 1 (idle 1)), (update 0 (idle 0))",
+        "(ok 1), (no 2 8), (ok 3), (ok 4), (ok 5), (no 6 13), (update 1 (end (boards 2) (holder 0) (moves 0) (flight 0) (black 0)))",
     );
 }
 

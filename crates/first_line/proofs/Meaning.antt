@@ -15,7 +15,8 @@ use Rattle.decimal.specs.Number.{numberLimit}
 use Rattle.forms.specs.Form.{Ascending}
 use Rattle.first_line.specs.declared.First.{First}
 use Rattle.first_line.specs.Start.{zeros, flagged, flagAll, topOf}
-use Rattle.first_line.specs.Meaning.{named, nodesFrom, everyNode, Below, flagByte, Means, RingsMean}
+use Rattle.first_line.specs.Meaning.{named, nodesFrom, everyNode, Below, flagByte, Means}
+use Rattle.first_line.specs.Theorems.{RingsMean}
 
 -- 1. top is at most n exactly if every node named is below n
 top-below : (ks : List ℕ) (t n : ℕ) → (topOf ks t ≤ n) ↔ ((t ≤ n) × Below n ks)

@@ -6,9 +6,7 @@ use mathlib.Core.List.{List, [], _∷_}
 use Prim.Native.Nat.{ℕ, zero, suc, _+_, _≤_, _<_}
 use lib.ListN.{length, getD}
 use lib.Dec.{eqb}
-use Rattle.forms.specs.Form.{Ascending}
 use Rattle.first_line.specs.declared.First.{First}
-use Rattle.first_line.specs.Start.{bare, lists, seen}
 
 -- the list names node i
 abbrev pub named : List ℕ → ℕ → Bool
@@ -32,18 +30,11 @@ Below n (k ∷ ks) = (k < n) × Below n ks
 abbrev pub flagByte : Bool → Bool → ℕ
 flagByte active black = cond active 1 0 + cond black 2 0
 
--- the answer r to a ring line that names these nodes active and these black, as far as its first `places` places tell
+-- the answer r to a ring line that names these nodes active and these black; its flags are told of so many places
 pub record Means (places : ℕ) (active black : List ℕ) (r : First) : Type 0 where
   pub many : length (r .flags) ≡ 96
   pub flag : (i : ℕ) → i < places → i < 96 → getD (r .flags) i 0 ≡ flagByte (named active i) (named black i)
   pub most : (n : ℕ) → (r .top ≤ n) ↔ (Below n active × Below n black)
-
--- "A ring line has both lists or neither". With both it means what they name, at all places; document 02, Q-6: with neither "all active and white",
--- at the places of its n nodes, the only ones that a start takes
-pub record RingsMean : Type 0 where
-  pub both :
-      (n : ℕ) (active black : List ℕ) (e : ℕ) → Ascending 0 active → Ascending 0 black → Means 96 active black (seen (lists n active black) e)
-  pub neither : (n e : ℕ) → Means n (everyNode n) [] (seen (bare n) e)
 
 -- start flags for 96 nodes
 pub record Flags (flags : List ℕ) : Type 0 where

@@ -1,6 +1,6 @@
 -- The statement of specs/UpdateLog.antt, proved. Assumes nothing.
 use Prim.Native.Nat.{_*_, _+_, _-_, _<_, _≤_, suc, zero, ℕ}
-use borrow.Author.Tests.{eq-eqb, eqb-true}
+use borrow.Author.Tests.{eq-eqb, eqb-true, ne-eqb}
 use lib.Dec.{eqb, ltb}
 use lib.ListN.{List·getD-eq-default, getD, getD-replicate, length, length-append}
 use lib.Seq.{ext-getD, take-length}
@@ -342,6 +342,19 @@ module _
       ∙ (ap (λ (l : List asks.Ask). historyIn u (past u k) l .first) (adds k a (s .asks) granted)
       ∙ ap (λ (b : Bool). cond b (begun (Started (firstState (s .n) (flagsTo (s .active) (s .black) (s .n))))) (past u k) .first) (eq-eqb u u refl)))
 
+  -- what is accepted of line 1 and of those after it
+  accepted-made : (i : ℕ) → acceptedOf table emptyTable (made first qs i) ≡ first ∷ acc 0 i
+  unfolding acceptedOf runOf
+  accepted-made i =
+      ap (acceptedOf table emptyTable) (made-later 0 i (omega arith))
+      ∙ (accepted-append table emptyTable (made first qs 0) (later 0 i)
+      ∙ ap (λ (r : Verdict). settle r (first ∷ []) [] ++ acc 0 i) started)
+
+  began-none : (u i : ℕ) → ((m : ℕ) (fl : List ℕ) → first ≢ Start u m fl) → NoStart first qs u 0 i → startedOf u emptyTable (made first qs i) ≡ false
+  began-none u i other none =
+      let ne : eqb v u ≡ false = ne-eqb v u (λ e. other n flags (ap (λ (w : ℕ). Start w n flags) e)) in
+      ap (startsIn u) (accepted-made i) ∙ (ap (λ (b : Bool). b || startsIn u (acc 0 i)) ne ∙ no-starts u 0 i (omega arith) none)
+
   -- an accepted step of u is the last of its history
   step-history : (u i : ℕ) (x : Request) → one i ≡ Step u x ∷ [] → historyIn u (past u i) (one i) .taken ≡ past u i .taken ++ (x ∷ [])
   step-history u i x l =
@@ -615,6 +628,7 @@ module _
         judged = judged;
         began-first = began-first;
         began = began;
+        began-none = began-none;
         below-limit = never few;
         starts = λ i u m a b e k.
             ap (answered.verdictOn updates (here i)) e

@@ -91,7 +91,7 @@ pub record BareStarts : Type 0 where
   pub passive-at :
       (t : Table) → SoundTable t → (u n : ℕ) → verdictOf t (start u n [] []) ≡ Accepted
       → (r : State) × (slotAt (next updates t (start u n [] [])) u ≡ Started r) × AllNodesAre false n r
-  -- without lists a start is never 6
+  -- The numbers of a start without lists: of a ring 1 outside 1 to 96, of an update 13 and then 1; never 6
   pub verdict : (n : ℕ) → firstVerdict (ring-start n (everyNode n) []) ≡ firstOf ((not (inRange 96 n) ⟶ NodeCount) ∷ [])
   pub update-verdict :
       (t : Table) (u n : ℕ)
@@ -109,12 +109,12 @@ pub record BareStarts : Type 0 where
   pub update-begins :
       (s : List ℕ) {l : List ℕ} {lines : List (List ℕ)} (u n : ℕ) → linesOf s ≡ l ∷ lines → Says l (update u (bareRing n)) → u < 8 → 0 < n → n ≤ 96
       → UpdateLog s lines n (Start u n (bareFlags n))
-  -- `(announce)` is answered with ok there only after an accepted idle of every node
+  -- `(announce)` is answered with ok there only if the requests accepted before it have an idle of every node among them
   pub idle-first :
       {s : List ℕ} {lines : List (List ℕ)} (n : ℕ) → n ≤ 96 → (log : RingLog s lines n (bareRun n)) (i : ℕ)
       → AnnouncedAt ring (bareRun n) (log .asks) lines i
       → (b : ℕ) → b < n → idleIn (acceptedOf ring (bareRun n) (said (log .asks) i)) b ≡ true
-  -- and `(update u (announce))` only after such steps of u since its latest start, if that was the first line, or line 2 + k
+  -- and `(update u (announce))` only if the steps of u accepted since its latest start have, where that is the first line, or line 2 + k
   pub update-idle-first :
       {s : List ℕ} {lines : List (List ℕ)} (u n : ℕ) → n ≤ 96 → (log : UpdateLog s lines n (Start u n (bareFlags n))) (i : ℕ)
       → NoStart (Start u n (bareFlags n)) (log .asks) u 0 i → updateLog.AnnouncedAt (Start u n (bareFlags n)) (log .asks) lines u i

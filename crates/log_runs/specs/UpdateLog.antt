@@ -113,13 +113,17 @@ pub record UpdateLog (s : List ℕ) (lines : List (List ℕ)) (n : ℕ) (first :
       (i u m : ℕ) (active black : List ℕ) → getD asks i no-step ≡ request (start u m active black) → knownBy m active black ≡ true
       → verdictAt updates (tableBegun first) asks i
       ≡ verdictOn (tableAt first asks i) (Start u m (flagsTo active black m))
-  -- u's latest start, which the counts below are from: the first line's until a line starts u, and then that of the last line that did
+  -- u's latest start, which the counts below are from: the first line, where that starts u, until another line does; then the last line that did; and
+  -- with neither u is not started
   pub began-first :
       (u m : ℕ) (flags : List ℕ) → first ≡ Start u m flags → (i : ℕ) → NoStart first asks u 0 i
       → historyOf u emptyTable (made first asks i) .first ≡ Started (firstState m flags)
   pub began :
-      (u k i : ℕ) (s : StartedAt first asks u k) → k < i → NoStart first asks u (suc k) i
-      → historyOf u emptyTable (made first asks i) .first ≡ Started (firstState (s .n) (flagsTo (s .active) (s .black) (s .n)))
+      (u k i : ℕ) (at : StartedAt first asks u k) → k < i → NoStart first asks u (suc k) i
+      → historyOf u emptyTable (made first asks i) .first ≡ Started (firstState (at .n) (flagsTo (at .active) (at .black) (at .n)))
+  pub began-none :
+      (u i : ℕ) → ((m : ℕ) (flags : List ℕ) → first ≢ Start u m flags) → NoStart first asks u 0 i
+      → startedOf u emptyTable (made first asks i) ≡ false
   -- no line is answered with 9
   pub below-limit : (i : ℕ) → codeOf (verdictAt updates (tableBegun first) asks i) ≢ 9
   -- `(update u (announce))` is answered with ok only if every node of u is passive and no message of u is in transit, counted from u's latest start

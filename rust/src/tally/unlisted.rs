@@ -147,19 +147,19 @@ mod tests {
 
     #[test]
     fn starts_are_read_wrongly() {
-        let log = b"(update 1 (ring 2))\n(update 1 (probe))\n(ring 97)\n(ring 3 (active 1) (black))\n(ring 2";
+        let log = b"(update 1 (ring 3))\n(ring 3)\n(update 1 (probe))\n(ring 97)\n(ring 2 (active 1) (black))\n(ring 3";
         let readings = [
             "(active) (black)",
             "(active 0) (black)",
-            "(active 0) (black)",
-            "(active 0 1) (black 0 1)",
+            "(active 0 1) (black)",
+            "(active 0 1 2) (black 0 1 2)",
         ];
         for ((_, reading), lists) in WRONG.iter().zip(readings) {
             let reread = String::from_utf8(reread(log, *reading)).expect("lines of ASCII");
             let log = String::from_utf8_lossy(log);
             assert_eq!(
                 reread,
-                log.replacen("(ring 2)", &format!("(ring 2 {lists})"), 1)
+                log.replace("(ring 3)", &format!("(ring 3 {lists})"))
             );
         }
     }
