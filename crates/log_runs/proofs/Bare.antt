@@ -33,12 +33,12 @@ use Rattle.ring_rules.specs.Start.{firstState, flagActive, flagBlack, startOf}
 use Rattle.ring_rules.specs.State.{State, activeAt}
 use Rattle.ring_runs.specs.Counts.{activeAfter, activeNext, kind, ring}
 use Rattle.runs.specs.Runs.{Request, acceptedOf, next, runOf}
-use Rattle.table_rules.proofs.Slots.{put-same}
+use Rattle.table_rules.proofs.Slots.{put-same, same-state}
 use Rattle.table_rules.proofs.Soundness.{empty-fixed}
 use Rattle.table_rules.proofs.Theorems.{table-numbers}
 use Rattle.table_rules.specs.Answers.{Ask as TableAsk, Start, after, otherNodes}
 use Rattle.table_rules.specs.Soundness.{SoundTable}
-use Rattle.table_rules.specs.Table.{Slot, Started, Table, emptyTable, slotAt}
+use Rattle.table_rules.specs.Table.{Started, Table, emptyTable, slotAt}
 use Rattle.table_runs.specs.Counts.{historyOf}
 use Rattle.log_runs.proofs.First.{asks-once, below-test, first-told, flags-at, flags-start, opening-once, table-rows, update-passed, wrapped-once}
 use Rattle.log_runs.proofs.Runs.{each-at}
@@ -286,9 +286,6 @@ idle-of {r = r} are xs b h passive =
     let below : b < r .n = omega (arith, are .nodes) in
     idle-by xs b (ap (λ (a : Bool). activeAfter a xs b) (sym (are .activity b h)) ∙ passive b below)
 
-same-slot : {s : Slot} {r r′ : State} → s ≡ Started r → s ≡ Started r′ → r ≡ r′
-same-slot p q = cc
-
 -- line 2 + k starts u without lists, and is answered with ok
 module _ {s : List ℕ} {lines : List (List ℕ)} {n : ℕ} {first : TableAsk} (log : UpdateLog s lines n first) (u m k : ℕ) where
   line-asks : Says (getD lines k []) (update u (bareRing m)) → getD (log .asks) k no-step ≡ request (start u m (everyNode m) [])
@@ -329,11 +326,11 @@ bare-starts = record {
   update-idle-first = λ u n hi log i none a b h.
       let taken = historyOf u emptyTable (made (Start u n (bareFlags n)) (log .asks) i) .taken in
       let q = log .quiet u i a in
-      let is = same-slot (log .began-first u n (bareFlags n) refl i none) (q .began) in
+      let is = same-state (sym (log .began-first u n (bareFlags n) refl i none) ∙ q .began) in
       idle-of (subst (AllNodesAre true n) is (bare-are n hi)) taken b h (q .quiet .passive);
   later-idle-first = λ {first = first} log u m k i less p ok none a b h.
       let taken = historyOf u emptyTable (made first (log .asks) i) .taken in
       let q = log .quiet u i a in
-      let is = same-slot (log .began u k i (line-starts log u m k p ok) less none) (q .began) in
+      let is = same-state (sym (log .began u k i (line-starts log u m k p ok) less none) ∙ q .began) in
       idle-of (subst (AllNodesAre true m) is (bare-are m (few log u m k p ok))) taken b h (q .quiet .passive);
 }
