@@ -8,7 +8,7 @@ use Rattle.laws.proofs.Tests.{false-true}
 use Rattle.refusal.specs.Counts.{countOf}
 use Rattle.refusal.specs.Table.{codeOf, numberOf}
 use Rattle.refusal.specs.declared.Refusal.{Refusal}
-use Rattle.refusal.specs.declared.Refusal.the-variants.{Closed, MoveLimit, NodeCount, NotAForm, RuleFails, SendLimit, ShortBuffer, StartFlags, UnknownKind, UnknownNode, UnknownUpdate, Unsound}
+use Rattle.refusal.specs.declared.Refusal.the-variants.{Closed, JobWord, MoveLimit, NodeCount, NotAForm, RuleFails, SendLimit, ShortBuffer, StartFlags, UnequalMarks, UnknownKind, UnknownNode, UnknownUpdate, Unsound}
 use Rattle.refusal.specs.declared.Verdict.{Verdict}
 use Rattle.refusal.specs.declared.Verdict.the-variants.{Accepted, Refused}
 use Rattle.refusal.specs.Theorems.{CountAnswered, SevenRetired}
@@ -29,6 +29,8 @@ not-7 NotAForm e = omega arith
 not-7 MoveLimit e = omega arith
 not-7 ShortBuffer e = omega arith
 not-7 UnknownUpdate e = omega arith
+not-7 JobWord e = omega arith
+not-7 UnequalMarks e = omega arith
 
 code-not-7 : (v : Verdict) → codeOf v ≢ 7
 code-not-7 Accepted e = omega arith

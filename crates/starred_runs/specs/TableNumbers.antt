@@ -2,7 +2,7 @@
 use Prim.Native.Nat.{ℕ}
 use lib.ListN.{replicate, set}
 use mathlib.Core.List.{List, [], _∷_}
-use Rattle.refusal.specs.declared.Refusal.the-variants.{Closed, MoveLimit, NodeCount, NotAForm, RuleFails, SendLimit, ShortBuffer, StartFlags, UnknownKind, UnknownNode, UnknownUpdate, Unsound}
+use Rattle.refusal.specs.declared.Refusal.the-variants.{Closed, JobWord, MoveLimit, NodeCount, NotAForm, RuleFails, SendLimit, ShortBuffer, StartFlags, UnequalMarks, UnknownKind, UnknownNode, UnknownUpdate, Unsound}
 use Rattle.ring_rules.specs.Start.{startOf}
 use Rattle.ring_rules.specs.State.{State}
 use Rattle.ring_rules.specs.declared.Reason.the-variants.{Conclusive, Spent, Stopped, Waiting}
@@ -33,6 +33,8 @@ numbers =
     ∷ refusal MoveLimit 11
     ∷ refusal ShortBuffer 12
     ∷ refusal UnknownUpdate 13
+    ∷ refusal JobWord 14
+    ∷ refusal UnequalMarks 15
     ∷ reason Conclusive 100
     ∷ reason Waiting 101
     ∷ reason Spent 102
