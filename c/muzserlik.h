@@ -1,6 +1,6 @@
 /*
- * Muzserlik: a proved termination detector. A ring of up to 96 nodes by Safra's rules (EWD998), a table of eight updates on one such ring, a tree of up
- * to 16 nodes by the rules of Dijkstra and Scholten.
+ * Muzserlik: a proved termination detector. A ring of up to 96 nodes by Safra's rules (EWD998), a table of eight updates on one such ring, a panel, which
+ * is such a ring with two marks for each node and a record of its closing, a tree of up to 16 nodes by the rules of Dijkstra and Scholten.
  *
  * Link with libmuzserlik.a, which c/archive makes, on x86-64 Linux. Every function of the archive is proved to meet its contract; the contracts
  * are in the crates of their calls, crates/ring_export_step and so on. The inline functions of this header are tested only: they hand the fields of a
@@ -8,8 +8,8 @@
  *
  * A call
  *   - is answered with a number: 0 if it is accepted, else the number of the first check that it fails (enum muzserlik_answer). The checks of a
- *     call are made in the order of their numbers, but of a table 3 and then 13 come first; in reading, the first fault from the left decides. The
- *     driver answers with 100, 101 or 102, or with a refusal. Soundness is answered with 1 or 0;
+ *     call are made in the order of their numbers, but of a table 3 and then 13 come first, of a panel 3 comes first, and 14 next before 8; in
+ *     reading, the first fault from the left decides. The driver answers with 100, 101 or 102, or with a refusal. Soundness is answered with 1 or 0;
  *   - that is refused leaves every byte that it was lent as it was;
  *   - judges whatever a struct holds: one that is not sound is refused with 3 (README, "Sound states", says which are). One that was filled or changed by
  *     hand may happen to be sound, and is then taken as it is: let only these calls change a struct;
@@ -18,19 +18,19 @@
  *
  * The caller sees to it that
  *   - the steps tell what the nodes do: SEND before a message leaves, and none leaves whose SEND is refused; TAKE as it is received, on a ring with
- *     the number of messages that are received at once; IDLE as a node becomes passive. An announcement is proved right of the accepted steps,
- *     not of nodes that do something else;
+ *     the number of messages that are received at once, on a panel with the word of the one job; IDLE as a node becomes passive. An announcement
+ *     and a close are proved right of the accepted steps, not of nodes that do something else;
  *   - a pointer points to as much memory as its type or the length beside it says, aligned as its type asks (a struct that is declared as one
  *     is), and is not null; with a length of 0 the inline functions take any pointer, also a null one;
  *   - what is written to overlaps nothing else of the same call: `moves`, or `buffer` and `length`, lie outside the struct and apart from each
- *     other; `flags` lie outside the struct that is started; `engager` and `root` lie apart from each other and from the text. The fields of a
+ *     other; `flags` lie outside the struct that is started or entered; `engager` and `root` lie apart from each other and from the text. The fields of a
  *     struct do not overlap;
  *   - nobody else writes to what is lent before the call returns.
  * Where this is not so no call can tell, and nothing is promised.
  *
  * Nodes, kinds, counts and limits that are handed in are size_t, so that none is cut down on its way: a kind of 257 is an unknown kind, -1 is no
  * node, and a take of 2^32 + 1 messages is not one of 1. A struct may be copied by assignment. It has padding: memcmp does not compare two rings,
- * trees or tables.
+ * panels, trees or tables.
  *
  * The archive needs memcpy and memset, and nothing else; it has no data of its own that is written to, and takes no memory but the stack, less than
  * 32 KiB, a call on a table less than 80 KiB (measured). A step first walks the whole struct to see that it is sound. Header and archive are of one checkout: neither has a version.
@@ -69,13 +69,14 @@ enum {
 
 enum muzserlik_answer {
     MUZSERLIK_ACCEPTED = 0,
-    /* start, reading: the number of nodes is outside 1 to 96, or 1 to 16 for a tree; in a table, or is another than that of a started update */
+    /* start, reading: the number of nodes is outside 1 to 96, or 1 to 16 for a tree; in a table, or is another than that of a started update; of a
+     * panel's start, or is another than the panel's */
     MUZSERLIK_REFUSED_NODE_COUNT = 1,
-    /* start of a ring or an update: not one flag for each node, or one above 3 */
+    /* start of a ring, an update or a panel: not one flag for each node, or one above 3 */
     MUZSERLIK_REFUSED_START_FLAGS = 2,
     /* the struct handed in is not sound */
     MUZSERLIK_REFUSED_UNSOUND = 3,
-    /* the run is closed by an announcement */
+    /* the run is closed by an announcement, the panel by a close */
     MUZSERLIK_REFUSED_CLOSED = 4,
     /* a step's kind is outside 1 to 6 */
     MUZSERLIK_REFUSED_UNKNOWN_KIND = 5,
@@ -94,6 +95,10 @@ enum muzserlik_answer {
     MUZSERLIK_REFUSED_SHORT_BUFFER = 12,
     /* a table: the update is above 7, or a step's update is not started */
     MUZSERLIK_REFUSED_UNKNOWN_UPDATE = 13,
+    /* a panel: the job word of a TAKE is outside 1 to 4; comes before 8 */
+    MUZSERLIK_REFUSED_JOB_WORD = 14,
+    /* a panel: a CLOSE that passes the announce test, while the marks of all nodes are not one word; nothing is closed */
+    MUZSERLIK_REFUSED_UNEQUAL_MARKS = 15,
     /* the driver, which never answers 0, stopped: the announce test holds; no token move is allowed; it made as many moves as it was allowed */
     MUZSERLIK_CONCLUSIVE = 100,
     MUZSERLIK_WAITING = 101,
@@ -101,8 +106,8 @@ enum muzserlik_answer {
 };
 
 /*
- * The kinds of a step. PROBE and ACK, PASS and LEAVE are the same numbers: the first are the ring's, the second the tree's. Numbers that a kind
- * does not use are not read. The rule that has to hold, else 8, and what becomes of the state:
+ * The kinds of a step. PROBE and ACK, PASS and LEAVE are the same numbers: the first are the ring's, the second the tree's; so are ANNOUNCE and CLOSE, the
+ * second being the panel's. Numbers that a kind does not use are not read. The rule that has to hold, else 8, and what becomes of the state:
  *
  *   a ring; the counter of a node is what it sent less what it received
  *   SEND i j   i is active: one more message is on its way to j, which may be i itself
@@ -126,6 +131,12 @@ enum muzserlik_answer {
  *              no longer engaged
  *   ANNOUNCE   the root is passive, and all that it sent is acknowledged. Then, by the accepted steps, every node is passive and no message is in
  *              transit (proved); the run is closed
+ *
+ *   a panel; SEND, IDLE, PROBE and PASS are the ring's
+ *   TAKE i w   a message is on its way to i: i receives that one, as on a ring, and its firmware mark or its map mark is set by the job word w
+ *              (enum muzserlik_job). Another word is 14, before this rule; it is not refused with 6, whatever it is
+ *   CLOSE      the announce test of the ring. Where the firmware marks and the map marks of all n nodes are not one word, 15; else that word is
+ *              recorded, and the panel is closed and counts as released until the next accepted start
  */
 enum muzserlik_kind {
     MUZSERLIK_SEND = 1,
@@ -135,7 +146,29 @@ enum muzserlik_kind {
     MUZSERLIK_PASS = 5,
     MUZSERLIK_ANNOUNCE = 6,
     MUZSERLIK_ACK = 4,
-    MUZSERLIK_LEAVE = 5
+    MUZSERLIK_LEAVE = 5,
+    MUZSERLIK_CLOSE = 6
+};
+
+/* The job words of a panel's TAKE: which mark of the node is set, and to what. */
+enum muzserlik_job {
+    MUZSERLIK_FIRMWARE_NEW = 1,
+    MUZSERLIK_MAP_NEW = 2,
+    MUZSERLIK_FIRMWARE_OLD = 3,
+    MUZSERLIK_MAP_OLD = 4
+};
+
+/* A mark of a node. */
+enum muzserlik_mark {
+    MUZSERLIK_MARK_OLD = 0,
+    MUZSERLIK_MARK_NEW = 1
+};
+
+/* The record of a panel: empty while it is open, else the one word of all its marks. */
+enum muzserlik_record {
+    MUZSERLIK_RECORD_EMPTY = 0,
+    MUZSERLIK_RECORD_OLD = 1,
+    MUZSERLIK_RECORD_NEW = 2
 };
 
 /* A ring. Places from n on are zero. A start fills it; steps and the driver change it; anyone may read it. */
@@ -167,6 +200,17 @@ struct muzserlik_table {
     uint32_t sent[MUZSERLIK_UPDATES][MUZSERLIK_RING_NODES];
     uint32_t received[MUZSERLIK_UPDATES][MUZSERLIK_RING_NODES];
     uint32_t pending[MUZSERLIK_UPDATES][MUZSERLIK_RING_NODES];
+};
+
+/*
+ * A panel: a ring, and the marks of its nodes, which outlive a run. Closed (ring.closed is 1) it is released, and every mark of its n nodes is what is
+ * recorded. Let no call of a ring change its ring: an announcement there would close it without a record, and the panel would not be sound.
+ */
+struct muzserlik_panel {
+    struct muzserlik_ring ring;
+    uint8_t firmware[MUZSERLIK_RING_NODES];  /* enum muzserlik_mark, from n on old */
+    uint8_t map[MUZSERLIK_RING_NODES];       /* likewise */
+    uint8_t recorded;                        /* enum muzserlik_record */
 };
 
 /* A tree. Places from n on are zero, their engagers 16. */
@@ -207,6 +251,18 @@ uint8_t muzserlik_table_is_sound_fields(const size_t *n, const size_t *pos, cons
                                         const uint8_t (*active)[MUZSERLIK_RING_NODES], const uint8_t (*color)[MUZSERLIK_RING_COLOR_BYTES],
                                         const uint32_t (*sent)[MUZSERLIK_RING_NODES], const uint32_t (*received)[MUZSERLIK_RING_NODES],
                                         const uint32_t (*pending)[MUZSERLIK_RING_NODES]);
+uint8_t muzserlik_panel_enter_fields(size_t nodes, const uint8_t *flags, size_t count, size_t *n, uint8_t *active, uint8_t *color,
+                                     uint32_t *sent, uint32_t *received, uint32_t *pending, size_t *pos, int64_t *q, uint8_t *black,
+                                     uint8_t *closed, uint8_t *firmware, uint8_t *map, uint8_t *recorded);
+uint8_t muzserlik_panel_start_fields(size_t n, uint8_t *active, uint8_t *color, uint32_t *sent, uint32_t *received, uint32_t *pending,
+                                     size_t *pos, int64_t *q, uint8_t *black, uint8_t *closed, const uint8_t *firmware, const uint8_t *map,
+                                     uint8_t *recorded, size_t nodes, const uint8_t *flags, size_t count);
+uint8_t muzserlik_panel_step_fields(size_t n, uint8_t *active, uint8_t *color, uint32_t *sent, uint32_t *received, uint32_t *pending,
+                                    size_t *pos, int64_t *q, uint8_t *black, uint8_t *closed, uint8_t *firmware, uint8_t *map,
+                                    uint8_t *recorded, size_t kind, size_t i, size_t j);
+uint8_t muzserlik_panel_is_sound_fields(size_t n, const uint8_t *active, const uint8_t *color, const uint32_t *sent,
+                                        const uint32_t *received, const uint32_t *pending, size_t pos, int64_t q, uint8_t black,
+                                        uint8_t closed, const uint8_t *firmware, const uint8_t *map, uint8_t recorded);
 uint8_t muzserlik_tree_start_fields(size_t nodes, size_t at, size_t *n, size_t *root, uint8_t *active, uint8_t *engager,
                                     uint32_t *unacked, uint32_t *transit, uint32_t *acks, uint32_t *sends, uint8_t *closed);
 uint8_t muzserlik_tree_step_fields(size_t n, size_t root, uint8_t *active, uint8_t *engager, uint32_t *unacked, uint32_t *transit,
@@ -297,6 +353,57 @@ static inline int muzserlik_table_is_sound(const struct muzserlik_table *table)
 {
     return muzserlik_table_is_sound_fields(table->n, table->pos, table->q, table->black, table->closed, table->active, table->color,
                                            table->sent, table->received, table->pending);
+}
+
+/* ---- The panel */
+
+/*
+ * Enters a panel of n nodes for the first time: its run is started as a ring's, all its marks are old, and nothing is recorded. 0, 1 or 2; `flags`,
+ * `count` and the struct as for a ring's start.
+ */
+static inline int muzserlik_panel_enter(struct muzserlik_panel *panel, size_t n, const uint8_t *flags, size_t count)
+{
+    const uint8_t none = 0;
+    struct muzserlik_ring *ring = &panel->ring;
+    return muzserlik_panel_enter_fields(n, count == 0 ? &none : flags, count, &ring->n, ring->active, ring->color, ring->sent,
+                                        ring->received, ring->pending, &ring->pos, &ring->q, &ring->black, &ring->closed, panel->firmware,
+                                        panel->map, &panel->recorded);
+}
+
+/*
+ * Starts the next run of a panel, open or closed: n has to be the panel's; the ring is as after its own start, the record is empty, and every mark is
+ * kept. 0; 3, 1 or 2, in this order, with the panel as it was, and released if it was.
+ */
+static inline int muzserlik_panel_start(struct muzserlik_panel *panel, size_t n, const uint8_t *flags, size_t count)
+{
+    const uint8_t none = 0;
+    struct muzserlik_ring *ring = &panel->ring;
+    return muzserlik_panel_start_fields(ring->n, ring->active, ring->color, ring->sent, ring->received, ring->pending, &ring->pos, &ring->q,
+                                        &ring->black, &ring->closed, panel->firmware, panel->map, &panel->recorded, n,
+                                        count == 0 ? &none : flags, count);
+}
+
+/*
+ * One step (enum muzserlik_kind, "a panel"); TAKE reads j as a job word, and takes one message. 0; 3, 4, 5, 6, 14, 8, 15 or 9, in this order, with the
+ * panel as it was. With every node passive and no message in transit the announce test holds after at most 3n - 2 PROBEs and PASSes. Then, where CLOSE is
+ * 15, no step is accepted: start the panel afresh, and send the jobs that are missing.
+ */
+static inline int muzserlik_panel_step(struct muzserlik_panel *panel, size_t kind, size_t i, size_t j)
+{
+    struct muzserlik_ring *ring = &panel->ring;
+    return muzserlik_panel_step_fields(ring->n, ring->active, ring->color, ring->sent, ring->received, ring->pending, &ring->pos, &ring->q,
+                                       &ring->black, &ring->closed, panel->firmware, panel->map, &panel->recorded, kind, i, j);
+}
+
+/*
+ * 1 where the panel is sound, else 0: its ring is, marks from n on are old, and the record is empty while it is open and, when it is closed, the word of
+ * every mark. A mark above 1 anywhere or a record above 2 is not sound.
+ */
+static inline int muzserlik_panel_is_sound(const struct muzserlik_panel *panel)
+{
+    const struct muzserlik_ring *ring = &panel->ring;
+    return muzserlik_panel_is_sound_fields(ring->n, ring->active, ring->color, ring->sent, ring->received, ring->pending, ring->pos, ring->q,
+                                           ring->black, ring->closed, panel->firmware, panel->map, panel->recorded);
 }
 
 /* ---- The tree */

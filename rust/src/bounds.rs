@@ -350,6 +350,51 @@ pub mod tables {
     ];
 }
 
+/// Of the calls on panels.
+pub mod panels {
+    use super::{asked, ring, Asked, OwnAsked, LARGE_RINGS};
+
+    /// Enters into noise, and steps of runs.
+    pub const ENTERS: usize = 10_000;
+    pub const STEPS: usize = 300_000;
+    /// Runs closed with each word recorded.
+    pub const CLOSED: usize = 300;
+    pub const CLOSED_ON_LARGE: usize = 50;
+    /// Closes refused with 15, by how the marks differ.
+    pub const UNEQUAL: usize = 250;
+    /// Panels made with marks of each sort: closed, or refused with 15.
+    pub const MADE: usize = 400;
+    /// Takes refused with 14, by their words; some are a job's if they are cut to so many bits.
+    pub const WORDS: usize = 1_000;
+    pub const WIDTHS: [u32; 3] = [8, 16, 32];
+    /// Calls to which two refusals apply, by these; the first is told.
+    pub const ORDER: usize = 500;
+    pub const BOTH: [[u8; 2]; 7] = [[3, 1], [3, 14], [4, 5], [4, 14], [6, 14], [14, 8], [8, 15]];
+    /// Starts accepted of released panels, after a 15 and of panels that run; refused for another N, in range and not.
+    pub const STARTED: usize = 1_000;
+    /// Panels that are not sound by each damage.
+    pub const DAMAGED: usize = 500;
+    /// Calls on which each wrong reading differs.
+    pub const MISREAD: usize = 350;
+    /// Bytes that are no mark, record or truth, at each place; marks, records and truths told as sound.
+    pub const NO_MARK: usize = 2_000;
+    pub const WHOLE: usize = 1_000;
+    pub const OWN: OwnAsked = OwnAsked {
+        sent: 3_500,
+        passive: 4_000,
+        limit: Some(350),
+        taken: None,
+        alone: Some(1_700),
+        announced: Some(250),
+    };
+    pub const ON_PANELS: [Asked; 4] = [
+        asked(1..=1, 8_000, 8_000),
+        asked(2..=8, 30_000, 25_000),
+        asked(LARGE_RINGS, 100_000, 35_000),
+        asked(ring::MAX_NODES..=ring::MAX_NODES, 20_000, 6_000),
+    ];
+}
+
 /// Of two tables that agree on one update.
 pub mod independence {
     pub const PAIRS: usize = 500;
@@ -398,12 +443,18 @@ pub mod answers {
     pub const TREE_READ: [usize; 4] = [0, 1, 6, 10];
     /// The refusals that a step of a log can meet. The others cannot come: 1 and 2, since they are a start's; 3, since a run keeps its state sound;
     /// 5, since each word has a kind; 7, since it is retired; 9, since it needs 1,000,000 accepted sends of its run before it and a log has at most
-    /// 999,999 lines after its first; 11 and 12, since a log has no driver and the text of the tree always has room.
+    /// 999,999 lines after its first; 11 and 12, since a log has no driver and the text of the tree always has room; 14 and 15, since a log has no
+    /// packing station.
     pub const OF_LOG: [usize; 4] = [4, 6, 8, 10];
     /// The refusals of a step on a sound state; beside these it answers 0, or 3 if the state is not sound.
     pub const OF_SOUND: [usize; 5] = [4, 5, 6, 8, 9];
     /// The refusals of a step on a sound table, which answers 3 if it is not sound.
     pub const OF_TABLE_STEP: [usize; 6] = [4, 5, 6, 8, 9, 13];
+    /// Of an enter, and of a start of a sound panel; a start answers 3 too.
+    pub const PANEL_ENTER: [usize; 3] = [0, 1, 2];
+    pub const PANEL_START: [usize; 3] = [0, 1, 2];
+    /// The refusals of a step on a sound panel, which answers 3 if it is not sound.
+    pub const OF_PANEL_STEP: [usize; 7] = [4, 5, 6, 8, 9, 14, 15];
     /// No or yes.
     pub const IS_SOUND: [usize; 2] = [0, 1];
 }

@@ -1,4 +1,4 @@
-//! The refusals: paper, "Where a request is turned back", and request Q-4. They are named as in crates/refusal.
+//! The refusals: paper, "Where a request is turned back", and requests. They are named as in crates/refusal.
 
 /// Why a request is refused, with the number of the paper's table.
 #[derive(Clone, Copy, Debug, PartialEq, Eq)]
@@ -27,6 +27,10 @@ pub enum Refusal {
     ShortBuffer = 12,
     /// An update's number is above 7, or a step names one that is not started.
     UnknownUpdate = 13,
+    /// A panel's take has a job word outside 1 to 4.
+    JobWord = 14,
+    /// A close that passes the announce test, of a panel whose marks do not all agree.
+    UnequalMarks = 15,
 }
 
 impl Refusal {
@@ -34,7 +38,7 @@ impl Refusal {
     pub const RETIRED: u32 = 7;
 
     /// In the order of their numbers.
-    pub const ALL: [Refusal; 12] = [
+    pub const ALL: [Refusal; 14] = [
         Refusal::NodeCount,
         Refusal::StartFlags,
         Refusal::Unsound,
@@ -47,7 +51,12 @@ impl Refusal {
         Refusal::MoveLimit,
         Refusal::ShortBuffer,
         Refusal::UnknownUpdate,
+        Refusal::JobWord,
+        Refusal::UnequalMarks,
     ];
+
+    /// Those of the packing station alone, of which a log knows nothing.
+    pub const OF_STATION: [Refusal; 2] = [Refusal::JobWord, Refusal::UnequalMarks];
 
     /// The number in the paper's table.
     pub fn number(self) -> u32 {

@@ -21,6 +21,7 @@ fn limits_of_the_paper() {
 #[test]
 fn numbers_of_the_refusals() {
     let numbers = Refusal::ALL.map(Refusal::number);
-    assert_eq!(numbers, [1, 2, 3, 4, 5, 6, 8, 9, 10, 11, 12, 13]);
+    assert_eq!(numbers, [1, 2, 3, 4, 5, 6, 8, 9, 10, 11, 12, 13, 14, 15]);
     assert_eq!(Refusal::RETIRED, 7);
+    assert_eq!(Refusal::OF_STATION.map(Refusal::number), [14, 15]);
 }

@@ -15,7 +15,7 @@ use Rattle.panel_rules.proofs.Answers.{ring-verdict}
 use Rattle.panel_rules.proofs.Keeps.{starts}
 use Rattle.panel_rules.proofs.Numbers.{close-accepted}
 use Rattle.panel_rules.proofs.Theorems.{answer-is, panel-answered, panel-kept, rings-own, start-accepts, start-answered as panel-starts}
-use Rattle.panel_rules.specs.Answers.{Answer, enterOf, startVerdict}
+use Rattle.panel_rules.specs.Answers.{Answer, enterOf}
 use Rattle.panel_rules.specs.Asks.{Ask, Start, Step, after, answerOn, panel, verdictOn}
 use Rattle.panel_rules.specs.Rules.{badWord, second, unequal}
 use Rattle.panel_rules.specs.Soundness.{Sound}
@@ -33,7 +33,7 @@ use Rattle.ring_rules.proofs.Start.{fits}
 use Rattle.ring_rules.proofs.Theorems.{limit-met, start-answered}
 use Rattle.ring_rules.proofs.Accepted.{conclusive-true}
 use Rattle.ring_rules.specs.Answers as ring-answers
-use Rattle.ring_rules.specs.Rules.{Announce, Idle, Kind, Pass, Probe, Send, Take, Unknown, effect}
+use Rattle.ring_rules.specs.Rules.{Announce, Idle, Kind, Pass, Probe, Send, Take, Unknown}
 use Rattle.ring_rules.specs.Start as ring-start
 use Rattle.ring_rules.specs.State.{State}
 use Rattle.ring_runs.proofs.Agreed.{other-kind}

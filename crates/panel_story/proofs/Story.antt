@@ -2,7 +2,7 @@
 use Prim.Native.Nat.{_<_, ℕ}
 use borrow.Author.Tests.{eqb-true, not-true}
 use lib.Dec.{eqb}
-use mathlib.Core.Bool.{Bool, _&&_, false, not, true}
+use mathlib.Core.Bool.{Bool, _&&_, not, true}
 use mathlib.Core.List.{List, [], _++_, _∷_}
 use mathlib.Core.Path.{_≡_, refl, subst, sym}
 use Rattle.color.specs.Colors.{blackened, isBlack, whitened}

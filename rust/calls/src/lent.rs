@@ -4,6 +4,8 @@ use second::generate::Rng;
 use second::ring::{self, Ring, Token};
 use second::tree::{self, Tree};
 
+/// Laid out as `struct muzserlik_ring`.
+#[repr(C)]
 #[derive(Clone, Debug, PartialEq, Eq)]
 pub struct LentRing {
     pub n: usize,

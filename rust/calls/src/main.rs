@@ -1,7 +1,8 @@
 //! Compares the proved functions, called through a static library, with the second implementation: starts; the steps of whole runs, which
 //! are guided by their states; wild states; rings that are made to be sound, or not to be by little; the ring's driver; every value of each byte
 //! that stands for a truth; the tree's text, written, read back and damaged; tables of eight updates, through the header's functions, some with updates
-//! at and about their limits of sends, some two by two, agreeing on one update; and walks the
+//! at and about their limits of sends, some two by two, agreeing on one update; panels, through the header's functions, from their first entry
+//! over closes, refused closes and starts in between, and panels that are not sound by little; and walks the
 //! states of EWD998 for N = 3 with the proved step, against document 001's table (the listing's own SendMsg: no message to oneself). Takes are of
 //! every number of messages, by nodes to which none to more than a take may be of are on their way. A node sends to itself now and then, a lone one
 //! always; trees that hold such messages are made to be sound, or not to be by little. What is lent to be written holds noise before each call, and a
@@ -11,15 +12,21 @@
 mod answers;
 mod flags;
 mod independence;
+mod lent_panel;
 mod lent_table;
 mod limits;
 mod near_counts;
 mod near_misses;
 mod numbers;
 mod own_trees;
+mod panel_cases;
+mod panel_damage;
+mod panel_runs;
+mod panels;
 mod requests;
 mod rings;
 mod same;
+mod same_panels;
 mod sound_rings;
 mod soundness;
 mod tables;
@@ -44,6 +51,7 @@ fn main() {
     trees::compare(seed, &mut report);
     tables::compare(seed, &mut report);
     independence::compare(seed, &mut report);
+    panels::compare(seed, &mut report);
     flags::compare(seed, &mut report);
     texts::compare(seed, &mut report);
     walk(proved_step).report("the proved step", &mut report);

@@ -227,7 +227,7 @@ fn with_messages(random: &mut Rng) -> Ring {
 }
 
 /// Numbers of nodes and flags in range and about it.
-fn flags(random: &mut Rng) -> (usize, Vec<u8>) {
+pub fn flags(random: &mut Rng) -> (usize, Vec<u8>) {
     let nodes = match random.below(3) {
         0 => 1 + random.below(MAX_NODES),
         1 => random.pick(&[1, 2, MAX_NODES - 1, MAX_NODES]),

@@ -25,8 +25,8 @@ use steps::{Steps, Words};
 use unlisted::Unlisted;
 use updates::Updates;
 
-/// Numbers of answers: 0 is an accepted line, 1 to 13 but 7 are the refusals.
-const ANSWERS: usize = 14;
+/// Numbers of answers: 0 is an accepted line, 1 to 13 but 7 are the refusals of a log.
+const ANSWERS: usize = Refusal::UnknownUpdate as usize + 1;
 const CLOSED: usize = 4;
 const UNKNOWN_NODE: usize = 6;
 const NOT_A_FORM: usize = 10;
@@ -38,7 +38,7 @@ pub fn split(bytes: &[u8]) -> impl Iterator<Item = &[u8]> {
     bytes.split_inclusive(|&byte| byte == b'\n')
 }
 
-/// The number of an answer: `(ok LINE)` is 0, `(no LINE NUMBER)` its last number, which is never 7.
+/// The number of an answer: `(ok LINE)` is 0, `(no LINE NUMBER)` its last number, which is never 7, nor one of the packing station.
 fn number_of(answer: &[u8]) -> usize {
     if answer.starts_with(b"(ok ") {
         return 0;
@@ -49,6 +49,8 @@ fn number_of(answer: &[u8]) -> usize {
         .filter(|byte| byte.is_ascii_digit())
         .fold(0, |value, digit| 10 * value + usize::from(digit - b'0'));
     assert_ne!(number, Refusal::RETIRED as usize, "a retired answer");
+    let of_station = Refusal::OF_STATION.map(|refusal| refusal.number() as usize);
+    assert!(!of_station.contains(&number), "an answer of the station");
     number
 }
 
@@ -242,5 +244,17 @@ mod tests {
     #[should_panic(expected = "a retired answer")]
     fn a_retired_answer_fails() {
         Tally::default().count(b"(ring 2)\n(send 1 1)\n", b"(ok 1)\n(no 2 7)\n");
+    }
+
+    #[test]
+    #[should_panic(expected = "an answer of the station")]
+    fn a_job_word_fails() {
+        Tally::default().count(b"(ring 2)\n(take 1 5)\n", b"(ok 1)\n(no 2 14)\n");
+    }
+
+    #[test]
+    #[should_panic(expected = "an answer of the station")]
+    fn unequal_marks_fail() {
+        Tally::default().count(b"(ring 2)\n(announce)\n", b"(ok 1)\n(no 2 15)\n");
     }
 }

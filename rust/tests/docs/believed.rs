@@ -25,8 +25,8 @@ const INNER: [(&str, &str); 13] = [
     ("ring_walk", "Walked"),
 ];
 
-/// Crates whose code need not be believed: it is called by the public operations, and proved; three are test programs.
-const INNER_CODE: [&str; 27] = [
+/// Crates whose code need not be believed: it is called by the public operations, and proved; four are test programs.
+const INNER_CODE: [&str; 31] = [
     "log_end",
     "log_lines",
     "log_ring",
@@ -34,6 +34,10 @@ const INNER_CODE: [&str; 27] = [
     "log_table_end",
     "log_text",
     "log_tree",
+    "panel_calls",
+    "panel_fields",
+    "panel_marks",
+    "panel_steps",
     "ring_calls",
     "ring_driver",
     "ring_fields",

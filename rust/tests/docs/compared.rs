@@ -3,10 +3,11 @@
 
 use crate::repository::{in_thousands, joined, lost_phrases, places_of, read, section, tables};
 use second::bounds::{
-    answers, calls, independence, logs, own_trees, soundness, tables, texts, updates, Asked,
-    OwnAsked, TakesAsked, UnlistedAsked, LARGE_RINGS, LARGE_TREES,
+    answers, calls, independence, logs, own_trees, panels, soundness, tables, texts, updates,
+    Asked, OwnAsked, TakesAsked, UnlistedAsked, LARGE_RINGS, LARGE_TREES,
 };
 use second::log::{LINE_BYTES, LINE_LIMIT};
+use second::misreadings::MISREADINGS;
 use second::refusal::Refusal;
 use second::request::SEND_LIMIT;
 use second::sizes::range_name;
@@ -300,6 +301,70 @@ fn of_independence() -> Vec<String> {
     ]
 }
 
+fn of_panels() -> Vec<String> {
+    let enters = enumerated(&answers::PANEL_ENTER, "and");
+    let starts = enumerated(&answers::PANEL_START, "and");
+    let told = format!("to enters {enters}, to starts {starts} at least {{}} times each");
+    let large = range_name("panels", &LARGE_RINGS);
+    let on_large =
+        format!("on {large} each answer to a step {{}} times and {{}} runs closed with each word");
+    vec![
+        filled(
+            "{} enters into noise and {} steps of runs",
+            &[panels::ENTERS, panels::STEPS],
+        ),
+        filled(&told, &[calls::ANSWER]),
+        filled(
+            "{} runs closed with old recorded and as many with new",
+            &[panels::CLOSED],
+        ),
+        filled(
+            &on_large,
+            &[calls::ANSWER_ON_LARGE, panels::CLOSED_ON_LARGE],
+        ),
+        filled("made panels of each sort {} times", &[panels::MADE]),
+        filled("{} starts accepted of released panels", &[panels::STARTED]),
+        filled(
+            "each of {} wrong readings told apart by {} calls",
+            &[MISREADINGS.len(), panels::MISREAD],
+        ),
+    ]
+}
+
+fn of_refused_panels() -> Vec<String> {
+    let refusals = enumerated(&[&[3], &answers::OF_PANEL_STEP[..]].concat(), "and");
+    let [unsound, word, unequal] = [Refusal::Unsound, Refusal::JobWord, Refusal::UnequalMarks]
+        .map(|refusal| refusal.number() as usize);
+    let widths = enumerated(&panels::WIDTHS, "or");
+    let words =
+        format!("{{}} {{}} times for 0, for 5 and for words that are a job's if they are cut to {widths} bits");
+    let both = panels::BOTH.map(|[first, second]| format!("{first} before {second}"));
+    vec![
+        format!("to steps {refusals}"),
+        filled("or {} and no step accepted", &[unequal]),
+        filled(
+            "{} {} times for each way in which marks differ",
+            &[unequal, panels::UNEQUAL],
+        ),
+        filled(&words, &[word, panels::WORDS]),
+        format!("{}, {} times each", both.join(", "), panels::ORDER),
+        filled("after a {} and of panels that run", &[unequal]),
+        filled(
+            "each damage refused with {} {} times",
+            &[unsound, panels::DAMAGED],
+        ),
+        filled(
+            "each field of a panel's ring broken alone {} times",
+            &[calls::BROKEN],
+        ),
+        filled(
+            "a byte that is no mark, record or truth refused by each call {} times at each place",
+            &[panels::NO_MARK],
+        ),
+        filled("{} of those that are told as sound", &[panels::WHOLE]),
+    ]
+}
+
 fn of_texts() -> Vec<String> {
     let widths = enumerated(&texts::WIDTHS, "or");
     let cut = format!("6 for a number that is a node if it is cut to {widths} bits {{}} times");
@@ -339,6 +404,8 @@ fn phrases() -> Vec<String> {
         of_tables(),
         of_sends(),
         of_independence(),
+        of_panels(),
+        of_refused_panels(),
         of_texts(),
         of_walk(),
     ]
@@ -375,6 +442,7 @@ fn sizes() -> Vec<Vec<String>> {
         row("calls, rings", &calls::ON_RINGS, ring::MAX_NODES),
         row("calls, trees", &calls::ON_TREES, tree::MAX_NODES),
         row("calls, tables", &tables::ON_TABLES, tables::SIZES),
+        row("calls, panels", &panels::ON_PANELS, ring::MAX_NODES),
     ]
 }
 
@@ -426,6 +494,7 @@ fn own() -> Vec<Vec<String>> {
         own_row("calls, rings", &calls::OWN_ON_RINGS),
         own_row("calls, trees", &calls::OWN_ON_TREES),
         own_row("calls, tables", &tables::OWN),
+        own_row("calls, panels", &panels::OWN),
     ]
 }
 

@@ -1,6 +1,8 @@
-//! The constants of c/muzserlik.h are exactly those of the proved code, with the same numbers.
+//! The constants of c/muzserlik.h are exactly those of the proved code, with the same numbers; the packing station's words are those of the
+//! second implementation, with which the proved calls are compared.
 
 use crate::repository::read;
+use second::panel::{CLOSE, FIRMWARE_NEW, FIRMWARE_OLD, MAP_NEW, MAP_OLD};
 use std::collections::BTreeMap;
 
 /// `MUZSERLIK_NAME = NUMBER` on a line of the header; the same name twice is a fault.
@@ -82,6 +84,22 @@ pub fn upper(name: &str) -> String {
     upper
 }
 
+/// The words of the packing station: its kind, its jobs, and the bytes of marks and record.
+fn of_station() -> [(&'static str, u64); 10] {
+    [
+        ("CLOSE", CLOSE as u64),
+        ("FIRMWARE_NEW", FIRMWARE_NEW as u64),
+        ("MAP_NEW", MAP_NEW as u64),
+        ("FIRMWARE_OLD", FIRMWARE_OLD as u64),
+        ("MAP_OLD", MAP_OLD as u64),
+        ("MARK_OLD", 0),
+        ("MARK_NEW", 1),
+        ("RECORD_EMPTY", 0),
+        ("RECORD_OLD", 1),
+        ("RECORD_NEW", 2),
+    ]
+}
+
 fn proved() -> BTreeMap<String, u64> {
     let nodes = constant("refusal", "RING_NODES");
     let mut proved: BTreeMap<String, u64> = [
@@ -113,13 +131,15 @@ fn proved() -> BTreeMap<String, u64> {
         let before = proved.insert(name.to_uppercase(), kind);
         assert!(before.is_none_or(|before| before == kind), "{name}");
     }
+    let station = of_station().map(|(name, number)| (name.to_owned(), number));
+    proved.extend(station);
     proved
 }
 
 #[test]
 fn the_constants_are_the_proved_ones() {
     let proved = proved();
-    assert_eq!(proved.len(), 33, "constants");
+    assert_eq!(proved.len(), 45, "constants");
     assert_eq!(told(&read("c/muzserlik.h")), proved);
 }
 

@@ -85,6 +85,37 @@ fn kinds_told(page: &str, detector: &str) -> Numbers {
     numbered(section(page, "## Steps"), ["Kind", detector], 1, 0)
 }
 
+/// The kinds of a panel's steps in README: `1 send i j, 2 take i j ..`.
+fn panel_kinds_told(page: &str) -> Numbers {
+    let all = tables(section(page, "## Closing a panel"));
+    let mut rows = all.iter().flatten();
+    let step = rows.find(|row| row[0].starts_with("step "));
+    let kind = |part: &str| {
+        let mut words = part.split_whitespace();
+        let number = words.next()?.parse().ok()?;
+        Some((words.next()?.to_owned(), number))
+    };
+    step.expect("a panel's step")[1]
+        .split(", ")
+        .filter_map(kind)
+        .collect()
+}
+
+/// The job words in README, by what they set and to what.
+fn jobs_told(page: &str) -> BTreeMap<String, u64> {
+    let all = tables(section(page, "## Closing a panel"));
+    let table = all
+        .iter()
+        .find(|table| table[0] == ["Job word", "Sets", "To"]);
+    let row = |row: &Vec<String>| {
+        let marks = ["firmware", "map"];
+        let mark = marks.into_iter().find(|mark| row[1].contains(mark));
+        let name = format!("{}_{}", mark.expect("a mark"), row[2]).to_uppercase();
+        (name, row[0].parse().expect("a number"))
+    };
+    table.expect("job words")[1..].iter().map(row).collect()
+}
+
 /// The answers that are no refusals.
 fn answers_told(page: &str) -> Numbers {
     numbered(section(page, "## Refusals"), ["Answer", "Number"], 2, 1)
@@ -116,8 +147,13 @@ fn calls_told(page: &str) -> Vec<(String, Vec<usize>)> {
 fn calls_met() -> Vec<(String, Vec<usize>)> {
     let steps = [&[0, 3], &answers::OF_SOUND[..]].concat();
     let table_steps = [&[0, 3], &answers::OF_TABLE_STEP[..]].concat();
-    let mut table_starts = [&[3], &answers::TABLE_START[..]].concat();
-    table_starts.sort_unstable();
+    let panel_steps = [&[0, 3], &answers::OF_PANEL_STEP[..]].concat();
+    let [table_starts, panel_starts] =
+        [&answers::TABLE_START[..], &answers::PANEL_START].map(|numbers| {
+            let mut starts = [&[3], numbers].concat();
+            starts.sort_unstable();
+            starts
+        });
     [
         ("ring_start", &answers::RING_START[..]),
         ("ring_step", &steps),
@@ -126,6 +162,10 @@ fn calls_met() -> Vec<(String, Vec<usize>)> {
         ("table_start", &table_starts),
         ("table_step", &table_steps),
         ("table_is_sound", &answers::IS_SOUND),
+        ("panel_enter", &answers::PANEL_ENTER),
+        ("panel_start", &panel_starts),
+        ("panel_step", &panel_steps),
+        ("panel_is_sound", &answers::IS_SOUND),
         ("tree_start", &answers::TREE_START),
         ("tree_step", &steps),
         ("tree_is_sound", &answers::IS_SOUND),
@@ -180,9 +220,31 @@ fn the_kinds_are_the_headers() {
     let (ring, tree) = (kinds_told(&readme(), "Ring"), kinds_told(&readme(), "Tree"));
     assert_eq!(ring, kinds("ring_steps"));
     assert_eq!(tree, kinds("tree_steps"));
-    let both = ring.into_iter().chain(tree);
-    let told: BTreeMap<String, u64> = both.map(|(word, k)| (word.to_uppercase(), k)).collect();
+    let panel = panel_kinds_told(&readme());
+    let numbers: Vec<u64> = panel.iter().map(|(_, kind)| *kind).collect();
+    assert_eq!(numbers, [1, 2, 3, 4, 5, 6]);
+    assert_eq!(panel[..5], ring[..5]);
+    let all = ring.into_iter().chain(tree).chain(panel);
+    let told: BTreeMap<String, u64> = all.map(|(word, k)| (word.to_uppercase(), k)).collect();
     assert_eq!(told, of_enum(&header(), "muzserlik_kind"));
+}
+
+#[test]
+fn the_job_words_are_the_headers() {
+    assert_eq!(jobs_told(&readme()), of_enum(&header(), "muzserlik_job"));
+}
+
+#[test]
+fn another_word_of_a_panel_is_found() {
+    let page = |rows: &str| {
+        let told =
+            "| Operation | What it does |\n|---|---|\n| step kind i j | 1 send i j, 6 stop |\n";
+        format!("\n## Closing a panel\n\n{told}\n| Job word | Sets | To |\n|---|---|---|\n{rows}")
+    };
+    let kinds = panel_kinds_told(&page(""));
+    assert_eq!(kinds, [("send".to_owned(), 1), ("stop".to_owned(), 6)]);
+    let jobs = jobs_told(&page("| 2 | its firmware mark | new |\n"));
+    assert_eq!(jobs, [("FIRMWARE_NEW".to_owned(), 2)].into());
 }
 
 #[test]
@@ -254,8 +316,8 @@ fn another_answer_of_a_call_is_found() {
     assert!(!told("0, 1").contains(start));
     assert!(!told("0 to 3").contains(start));
     assert_eq!(
-        unknown_answers(&told("0, 13 to 15, 103"), &header()),
-        [14, 15, 103]
+        unknown_answers(&told("0, 15 to 17, 103"), &header()),
+        [16, 17, 103]
     );
 }
 

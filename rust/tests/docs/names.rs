@@ -1,6 +1,6 @@
 //! Every name that a page gives is declared: `name`, `Record.part`, `.part` of a record named before it in the same row or paragraph,
 //! `Type::method`, `crate::function`, or a must-fail edit of the crate that is named just before it; where a place stands beside it, in that
-//! place; in a column of the ring or of the tree, not by the other detector's crates, nor by the table's. Every path and file is there.
+//! place; in a column of the ring or of the tree, not by the other detector's crates, nor by the table's or the packing station's. Every path and file is there.
 
 use crate::declared::{declared, File, Name};
 use crate::edits::is_edit;
@@ -63,16 +63,16 @@ impl Side {
         }
     }
 
-    /// Not a file of the other detector's, nor of the table's.
+    /// Not a file of the other detector's, nor of the table's or the packing station's.
     fn has(self, file: &File) -> bool {
-        let is_of = |others: [&str; 2]| {
+        let is_of = |others: [&str; 3]| {
             let owner = file.owner.split('_').next().unwrap_or_default();
             others.contains(&owner)
         };
         match self {
             Side::Both => true,
-            Side::Ring => !is_of(["tree", "table"]),
-            Side::Tree => !is_of(["ring", "table"]),
+            Side::Ring => !is_of(["tree", "table", "panel"]),
+            Side::Tree => !is_of(["ring", "table", "panel"]),
         }
     }
 }
