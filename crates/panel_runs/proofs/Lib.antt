@@ -1,5 +1,6 @@
 pub mod Trace
 pub mod Legs
 pub mod Next
+pub mod Marks
 pub mod WholeRun
 pub mod Agreement

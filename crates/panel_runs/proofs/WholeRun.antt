@@ -28,7 +28,7 @@ use Rattle.refusal.specs.Table.{codeOf, sendLimit}
 use Rattle.refusal.specs.declared.Verdict.the-variants.{Accepted}
 use Rattle.ring_rules.specs.Rules.{Announce, Kind, Send}
 use Rattle.ring_rules.specs.Start as ring-start
-use Rattle.ring_rules.specs.State.{State, activeAt, pendingAt}
+use Rattle.ring_rules.specs.State.{State, activeAt, pendingAt, receivedAt}
 use Rattle.ring_runs.proofs.Limit.{limit-counted}
 use Rattle.ring_runs.proofs.Trace as ring-trace
 use Rattle.ring_runs.proofs.WholeRun.{whole-runs as ring-whole}
@@ -240,13 +240,24 @@ module _ (p : Panel) (s : Sound p) (ls : List Ask) where
       ∙ ring-trace.run-active ring-chain (leg .base-sound) b
       ∙ ap (λ (acc : List Request). activeAfter (activeAt base b) acc b) (leg .all)
 
+  balance : (b : ℕ) → pendingAt (runOf ring base steps) b + takesBy steps b ≡ pendingAt base b + sendsTo steps b
+  balance b =
+      subst (λ (acc : List Request). pendingAt (runOf ring base steps) b + takesBy acc b ≡ pendingAt base b + sendsTo acc b) (leg .all)
+      (ring-trace.run-pending ring-chain (leg .base-sound) b)
+
   transit : (b : ℕ) → pendingAt (here .ring) b ≡ transitIn (legOf p ls) b
   transit b =
       let e : pendingAt (here .ring) b ≡ pendingAt (runOf ring base steps) b = ap (λ (r : State). pendingAt r b) (leg .there) in
-      let f : pendingAt (runOf ring base steps) b + takesBy steps b ≡ pendingAt base b + sendsTo steps b =
-      subst (λ (acc : List Request). pendingAt (runOf ring base steps) b + takesBy acc b ≡ pendingAt base b + sendsTo acc b) (leg .all)
-      (ring-trace.run-pending ring-chain (leg .base-sound) b) in
-      omega arith
+      let f = balance b in omega arith
+
+  enough : (b : ℕ) → takesBy steps b ≤ pendingAt base b + sendsTo steps b
+  enough b = let f = balance b in omega arith
+
+  received : (b : ℕ) → receivedAt (here .ring) b ≡ receivedAt base b + takesBy steps b
+  received b =
+      ap (λ (r : State). receivedAt r b) (leg .there)
+      ∙ ring-trace.run-received ring-chain (leg .base-sound) b
+      ∙ ap (λ (acc : List Request). receivedAt base b + takesBy acc b) (leg .all)
 
   limit : (x : Request) → codeOf (verdictOn here (Step x)) ≡ 9 → (kind x ≡ Send) × (sendsOver (legOf p ls) ≡ sendLimit)
   limit x e =
@@ -273,6 +284,8 @@ module _ (p : Panel) (s : Sound p) (ls : List Ask) where
         ring-steps = leg .all;
         activity = activity;
         transit = transit;
+        enough = enough;
+        received = received;
         released = released;
         shut = λ e ys. closed-none (run-of panel here ys) (closed-here ∙ e);
         close = closes;

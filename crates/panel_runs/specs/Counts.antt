@@ -1,7 +1,7 @@
 -- Document 02, Q-7, over lists of requests: what is counted at a point of a list, from the first panel and the requests accepted so far alone.
 use Prim.Native.Nat.{_+_, _-_, _<_, ℕ}
 use lib.Dec.{eqb}
-use mathlib.Core.Bool.{Bool, _||_, cond, false, true}
+use mathlib.Core.Bool.{Bool, _&&_, _||_, cond, false, true}
 use mathlib.Core.List.{List, [], _++_, _∷_}
 use mathlib.Core.Path.{_≡_}
 use Rattle.laws.specs.Sums.{total}
@@ -61,6 +61,25 @@ firmwareBy p ls b = firmwareAfter (firmwareAt p b) (acceptedOf panel p ls) b
 
 abbrev pub mapBy : Panel → List Ask → ℕ → Bool
 mapBy p ls b = mapAfter (mapAt p b) (acceptedOf panel p ls) b
+
+-- a take by b with one of two words
+abbrev pub takesWord : Kind → Bool
+takesWord Send = false
+takesWord Take = true
+takesWord Idle = false
+takesWord Probe = false
+takesWord Pass = false
+takesWord Announce = false
+takesWord Unknown = false
+
+abbrev pub speaks : ℕ → ℕ → ℕ → Ask → Bool
+speaks v w b (Step x) = takesWord (kind x) && (eqb (x .i) b && (eqb (x .j) v || eqb (x .j) w))
+speaks v w b (Start n flags) = false
+
+-- none of a list is one
+pub data Silent (v w b : ℕ) : List Ask → Type 0 where
+  nothing : Silent v w b []
+  other : {a : Ask} {acc : List Ask} → speaks v w b a ≡ false → Silent v w b acc → Silent v w b (a ∷ acc)
 
 -- every counted mark of every node is one word
 pub record AgreeBy (p : Panel) (ls : List Ask) : Type 0 where

@@ -1,23 +1,25 @@
 -- Q-7 over whole lists of requests, steps and starts mixed, refused ones included, from any sound panel. The proof is in proofs/WholeRun.antt.
-use Prim.Native.Nat.{_*_, _-_, _<_, _≤_, ℕ}
+use Prim.Native.Nat.{_*_, _+_, _-_, _<_, _≤_, ℕ}
+use lib.Dec.{eqb}
 use lib.ListN.{length}
 use mathlib.Core.Bool.{false, true}
-use mathlib.Core.List.{List, [], _++_}
-use mathlib.Core.Logic.{_↔_}
+use mathlib.Core.List.{List, [], _++_, _∷_}
+use mathlib.Core.Logic.{_↔_, _⊎_}
 use mathlib.Core.Path.{_≡_}
 use Rattle.panel_rules.specs.Answers.{enterOf}
 use Rattle.panel_rules.specs.Asks.{Ask, Start, Step, answerOn, panel, verdictOn}
 use Rattle.panel_rules.specs.Soundness.{Sound}
 use Rattle.panel_rules.specs.State.{Panel, agreed, firmwareAt, mapAt, nodes, wordOf}
 use Rattle.panel_rules.specs.declared.Record.the-variants.{Empty}
-use Rattle.panel_runs.specs.Counts.{AgreeBy, AllMoves, QuietBy, activeIn, endedIn, firmwareBy, legOf, mapBy, releasedBy, sendsOver, startedIn, transitIn}
+use Rattle.panel_runs.specs.Counts.{AgreeBy, AllMoves, QuietBy, Silent, activeIn, endedIn, firmwareBy, legOf, mapBy, releasedBy, sendsOver, startedIn, transitIn}
 use Rattle.refusal.specs.Table.{codeOf, sendLimit}
 use Rattle.refusal.specs.declared.Verdict.the-variants.{Accepted}
 use Rattle.ring_rules.specs.Rules.{Announce, Send, conclusive}
 use Rattle.ring_rules.specs.Start as ring-start
-use Rattle.ring_rules.specs.State.{activeAt, pendingAt}
+use Rattle.ring_rules.specs.State.{activeAt, pendingAt, receivedAt}
 use Rattle.ring_rules.specs.Theorems.{TokenMove}
-use Rattle.ring_runs.specs.Counts.{kind, ring}
+use Rattle.ring_runs.specs.Counts.{kind, ring, sendsTo, takesBy}
+use Rattle.ring_runs.specs.Requests.{take}
 use Rattle.runs.specs.Runs.{Accepts, Request, acceptedOf, next, runOf}
 
 -- What whoever opens a released panel finds: a record that is not empty, and every firmware and map mark of every node equal to it, the
@@ -71,6 +73,8 @@ pub record Point (p : Panel) (ls : List Ask) : Type 0 where
   pub ring-steps : acceptedOf ring (legOf p ls .base) (legOf p ls .steps) ≡ legOf p ls .steps
   pub activity : (b : ℕ) → activeAt (runOf panel p ls .ring) b ≡ activeIn (legOf p ls) b
   pub transit : (b : ℕ) → pendingAt (runOf panel p ls .ring) b ≡ transitIn (legOf p ls) b
+  pub enough : (b : ℕ) → takesBy (legOf p ls .steps) b ≤ pendingAt (legOf p ls .base) b + sendsTo (legOf p ls .steps) b
+  pub received : (b : ℕ) → receivedAt (runOf panel p ls .ring) b ≡ receivedAt (legOf p ls .base) b + takesBy (legOf p ls .steps) b
   -- a released panel has its record and its marks equal, and accepts no step, of any list, until a start
   pub released : releasedBy p ls ≡ true → Released p ls
   pub shut : releasedBy p ls ≡ true → (ys : List Ask) → startedIn (acceptedOf panel (runOf panel p ls) ys) ≡ false → acceptedOf panel (runOf panel p ls) ys ≡ []
@@ -83,6 +87,18 @@ pub record Point (p : Panel) (ls : List Ask) : Type 0 where
   pub start : (flags : List ℕ) → ring-start.startVerdict (nodes p) flags ≡ Accepted → Accepts panel (runOf panel p ls) (Start (nodes p) flags)
   -- what meets 9 is a send, and exactly 1,000,000 are made by then since the latest start
   pub limit : (x : Request) → codeOf (verdictOn (runOf panel p ls) (Step x)) ≡ 9 → (kind x ≡ Send) × (sendsOver (legOf p ls) ≡ sendLimit)
+
+-- What the counted marks are: what the node's last accepted take said of which the word is of that kind, 1 and 3 of firmware, 2 and 4 of the map; with
+-- none, as in the first panel. (`take` is the ring's request of that name: here its second number is the word.)
+pub record MarksTold : Type 0 where
+  pub firmware-first : (p : Panel) (ls : List Ask) (b : ℕ) → Silent 1 3 b (acceptedOf panel p ls) → firmwareBy p ls b ≡ firmwareAt p b
+  pub firmware-last :
+      (p : Panel) (ls : List Ask) (b word : ℕ) (us vs : List Ask) → acceptedOf panel p ls ≡ us ++ (Step (take b word) ∷ vs)
+      → (word ≡ 1) ⊎ (word ≡ 3) → Silent 1 3 b vs → firmwareBy p ls b ≡ eqb word 1
+  pub map-first : (p : Panel) (ls : List Ask) (b : ℕ) → Silent 2 4 b (acceptedOf panel p ls) → mapBy p ls b ≡ mapAt p b
+  pub map-last :
+      (p : Panel) (ls : List Ask) (b word : ℕ) (us vs : List Ask) → acceptedOf panel p ls ≡ us ++ (Step (take b word) ∷ vs)
+      → (word ≡ 2) ⊎ (word ≡ 4) → Silent 2 4 b vs → mapBy p ls b ≡ eqb word 2
 
 -- for every list of requests from every sound panel
 pub record WholeRuns : Type 0 where
