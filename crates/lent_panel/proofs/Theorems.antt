@@ -15,9 +15,9 @@ use Rattle.lent_panel.proofs.Panel.{marks-left, nodes-kept, panel-back,
 use Rattle.lent_panel.specs.Calls.{fieldsAfter}
 use Rattle.lent_panel.specs.Panel.{LentPanel, askFields, askNumber, askVerdict, isRecord, lentPanelOf, panelIn, panelSoundNumber, panelTruths}
 use Rattle.lent_panel.specs.Theorems.{NoPanelFlag, PanelBytesJudged, PanelCalls, PanelCallsAnswer, PanelFieldsHold, PanelRefusalsKeep, PanelSoundLeft, WholePanelCalls, inFirmware, inMap, inRecord, inRing}
-use Rattle.panel_rules.proofs.Answers.{by-tests}
+use Rattle.panel_rules.proofs.Numbers.{closed-4}
 use Rattle.panel_rules.proofs.Theorems.{answer-is, panel-answered, panel-kept, panel-tested}
-use Rattle.panel_rules.specs.Answers.{Answer, enterOf, verdictOf}
+use Rattle.panel_rules.specs.Answers.{Answer, enterOf}
 use Rattle.panel_rules.specs.Asks.{Ask, Start, Step, answerOn, panel, verdictOn}
 use Rattle.panel_rules.specs.Soundness.{Sound, soundTest}
 use Rattle.panel_rules.specs.State.{Panel, recordNumber, wordOf}
@@ -29,7 +29,6 @@ use Rattle.refusal.specs.Table.{settle, codeOf}
 use Rattle.refusal.specs.declared.Refusal.the-variants.{Unsound}
 use Rattle.refusal.specs.declared.Verdict.{Verdict}
 use Rattle.refusal.specs.declared.Verdict.the-variants.{Accepted, Refused}
-use Rattle.ring_rules.specs.Rules.{Kind}
 use Rattle.ring_runs.specs.Counts.{kind}
 use Rattle.runs.specs.Runs.{next, runOf}
 
@@ -180,10 +179,6 @@ word-byte [] b w e = ap recordNumber (sym e)
 word-byte (true ∷ l) zero w e = ap recordNumber (sym e)
 word-byte (false ∷ l) zero w e = ap recordNumber (sym e)
 word-byte (x ∷ l) (suc b) w e = word-byte l b w e
-
--- a closed panel answers every step with 4
-closed-4 : (p : Panel) → Sound p → p .ring .closed ≡ true → (k : Kind) (i j : ℕ) → codeOf (verdictOf p k i j) ≡ 4
-closed-4 p s c k i j = ap codeOf (by-tests p k i j _ _ _ _ _ _ _ _ (panel-tested .tested p s) c refl refl refl refl refl refl)
 
 -- the bytes of fields in which a panel lies
 record Found (l : LentPanel) (p : Panel) : Type 0 where

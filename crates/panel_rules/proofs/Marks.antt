@@ -5,7 +5,7 @@ use lib.ListN.{getD}
 use mathlib.Core.Bool.{Bool, _&&_, false, true}
 use mathlib.Core.List.{List}
 use mathlib.Core.Logic.{_⊎_, inl, inr}
-use mathlib.Core.Path.{_∙_, _≡_, ap, sym}
+use mathlib.Core.Path.{_∙_, _≡_, ap, refl, sym}
 use native.Mathlib.Omega.{arith}
 use Rattle.laws.proofs.Places.{all-at, all-from}
 use Rattle.laws.proofs.Tests.{both, both-true, false-true, left-true, not-eq, one-of, right-true, split}
@@ -72,3 +72,10 @@ all-are p e = let w = one-word p e in (w .word, record { firmware = w .each .fir
 pub word-some : (mark : Bool) → wordOf mark ≡ Empty → ⊥
 word-some true e = let z : _≡_ {A = ℕ} 0 1 = cc in omega arith
 word-some false e = let z : _≡_ {A = ℕ} 0 1 = cc in omega arith
+
+-- and tells the mark
+pub word-once : (a b : Bool) → wordOf a ≡ wordOf b → a ≡ b
+word-once true true e = refl
+word-once true false e = let z : _≡_ {A = ℕ} 0 1 = cc in absurd (omega arith)
+word-once false true e = let z : _≡_ {A = ℕ} 0 1 = cc in absurd (omega arith)
+word-once false false e = refl

@@ -148,6 +148,10 @@ module _ (p : Panel) where
       λ h. by-tests p Announce i j _ _ _ _ _ _ _ _ (true-sound p (h .0)) (h .1) refl refl refl (h .2) (ap not (h .3)) refl,
     )
 
+  -- every step of a closed panel is 4
+  pub closed-4 : Sound p → p .ring .closed ≡ true → (k : Kind) (i j : ℕ) → codeOf (verdictOf p k i j) ≡ 4
+  closed-4 s c k i j = ap codeOf (by-tests p k i j _ _ _ _ _ _ _ _ (true-sound p s) c refl refl refl refl refl refl)
+
   -- 14 and 15 by kind
   pub kind-14 : (k : Kind) (i j : ℕ) → codeOf (verdictOf p k i j) ≡ 14 → k ≡ Take
   kind-14 k i j e = go k (at-14 k i j e .1)

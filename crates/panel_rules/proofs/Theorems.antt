@@ -9,19 +9,19 @@ use mathlib.Core.List.{List}
 use mathlib.Core.Logic.{_≢_, _⊎_, inl, inr, ⊎-elim}
 use mathlib.Core.Path.{_∙_, _≡_, ap, refl, subst, sym}
 use native.Mathlib.Omega.{arith}
-use Rattle.laws.proofs.Tests.{false-true, split}
+use Rattle.laws.proofs.Tests.{split}
 use Rattle.panel_rules.proofs.Accepted.{passed, ring-accepts}
 use Rattle.panel_rules.proofs.Answers.{ring-verdict, unsound-verdict}
 use Rattle.panel_rules.proofs.Keeps.{close-matches, enter-keeps, start-keeps, starts, step-keeps}
 use Rattle.panel_rules.proofs.Marks.{agree-from, all-are}
-use Rattle.panel_rules.proofs.Numbers.{close-15, close-8, close-accepted, kind-14, kind-15, node-count, start-flags, start-small, start-unsound, take-14}
+use Rattle.panel_rules.proofs.Numbers.{close-15, close-8, close-accepted, closed-4, kind-14, kind-15, node-count, start-flags, start-small, start-unsound, take-14}
 use Rattle.panel_rules.proofs.Soundness.{sound-true, true-sound}
 use Rattle.panel_rules.specs.Answers.{Answer, answerOf, enterOf, marksAnswer, marksTold, startOf, startTable, startVerdict, verdictOf}
 use Rattle.panel_rules.specs.Asks.{Ask, Start, Step, after, answerOn, panel, rowsOf, verdictOn}
 use Rattle.panel_rules.specs.Rules.{firmwareSaid, isWord, mapSaid, panelEffect, restarted, second}
 use Rattle.panel_rules.specs.Soundness.{Matches, Sound, soundTest}
 use Rattle.panel_rules.specs.State.{Panel, entered, firmwareAt, mapAt, marksNumber, nodes, recordNumber}
-use Rattle.panel_rules.specs.Theorems.{CloseAnswered, EnterAnswered, NumbersAlone, PanelAnswered, PanelKept, PanelRead, PanelTested, PanelUnread, RingsOwn, StartAnswered, TakeAnswered, WordsMean}
+use Rattle.panel_rules.specs.Theorems.{CloseAnswered, EnterAnswered, NumbersAlone, PanelAnswered, PanelKept, PanelRead, PanelTested, PanelUnread, RingsOwn, SoundSentence, StartAnswered, TakeAnswered, WordsMean}
 use Rattle.refusal.proofs.Table.{accepts, first-row, none-holds, numbered, other-kind}
 use Rattle.refusal.proofs.Theorems.{count-refused, count-told}
 use Rattle.refusal.specs.Table.{Numbered, also, codeOf, firstOf, settle}
@@ -45,6 +45,32 @@ panel-tested =
       agreed = λ p. (all-are p, λ w. agree-from p (w .0) (w .1));
     }
 
+pub sound-sentence : SoundSentence
+sound-sentence =
+    record {
+      exactly =
+          λ p lf lm. (
+            λ e.
+                let s = sound-true p e in (
+                  s .ring,
+                  λ i lo hi. (s .unused-firmware i lo hi, s .unused-map i lo hi),
+                  s .empty,
+                  λ c i h. (s .matches c .firmware i h, s .matches c .map i h),
+                ),
+            λ w.
+                true-sound p
+                (record {
+                  ring = w .0;
+                  firmware-places = lf;
+                  map-places = lm;
+                  unused-firmware = λ i lo hi. w .1 i lo hi .0;
+                  unused-map = λ i lo hi. w .1 i lo hi .1;
+                  empty = w .2;
+                  matches = λ c. record { firmware = λ i h. w .3 c i h .0; map = λ i h. w .3 c i h .1 };
+                }),
+          );
+    }
+
 -- ---- answers
 
 pub verdict-is : (p : Panel) (a : Ask) → verdictOn p a ≡ firstOf (rowsOf p a)
@@ -61,6 +87,14 @@ answer-is p (Start n flags) = refl
 panel-by : (p : Panel) (a : Ask) (v : Verdict) → verdictOn p a ≡ v → answerOn p a .panel ≡ settle v (after p a) p
 panel-by p a v e = ap (λ (x : Answer). x .panel) (answer-is p a) ∙ ap (λ (v : Verdict). settle v (after p a) p) e
 
+unsound-3 : (p : Panel) → (Sound p → ⊥) → (a : Ask) → codeOf (verdictOn p a) ≡ 3
+unsound-3 p h a = go (split (soundTest p)) a
+  where
+    go : (soundTest p ≡ true) ⊎ (soundTest p ≡ false) → (a : Ask) → codeOf (verdictOn p a) ≡ 3
+    go (inl t) a = absurd (h (sound-true p t))
+    go (inr f) (Step x) = ap codeOf (unsound-verdict p (kindOf (x .kind)) (x .i) (x .j) f)
+    go (inr f) (Start n flags) = start-unsound p n flags f
+
 pub panel-answered : PanelAnswered
 panel-answered =
     record {
@@ -72,6 +106,7 @@ panel-answered =
       next = λ p a. panel-by p a Accepted;
       refused = λ p a x e. first-row (rowsOf p a) x (sym (verdict-is p a) ∙ e);
       same = λ p a x. panel-by p a (Refused x);
+      unsound = unsound-3;
     }
 
 -- a column of old marks, at any place
@@ -181,6 +216,7 @@ rings-own =
           λ p k i j e.
           ap (λ (q : Panel). q .ring) (step-by p k i j Accepted e)
           ∙ sym (ring.step-answered .next (p .ring) k i (second k j) (ring-accepts p k i j e));
+      close = λ p s e i j. ring-verdict p s Announce i j refl (ap not e);
       verdict = λ p s k a b. plain-verdict p s k (plain k a b);
       kept =
           λ p k a b i j.
@@ -264,7 +300,7 @@ close-answered =
           λ p i j e.
           subst Matches (sym (step-by p Announce i j Accepted e)) (close-matches p _ refl (not-false _ (passed p Announce i j e .equal)));
       marks = λ p i j. (kept-by p Announce i j (λ (q : Panel). q .firmware) refl, kept-by p Announce i j (λ (q : Panel). q .map) refl);
-      last = λ p c k i j e. false-true (sym (passed p k i j e .running) ∙ c);
+      last = closed-4;
     }
 
 pub numbers-alone : NumbersAlone
@@ -298,14 +334,6 @@ module _ (p : Panel) (n : ℕ) (flags : List ℕ) where
       accepts (startTable p n flags)
       (also (ap not (true-sound p s)) (also (ap not (eq-eqb n (nodes p) e)) (none-holds (ring-start.startTable n flags) h)))
 
-unsound-3 : (p : Panel) → (Sound p → ⊥) → (a : Ask) → codeOf (verdictOn p a) ≡ 3
-unsound-3 p h a = go (split (soundTest p)) a
-  where
-    go : (soundTest p ≡ true) ⊎ (soundTest p ≡ false) → (a : Ask) → codeOf (verdictOn p a) ≡ 3
-    go (inl t) a = absurd (h (sound-true p t))
-    go (inr f) (Step x) = ap codeOf (unsound-verdict p (kindOf (x .kind)) (x .i) (x .j) f)
-    go (inr f) (Start n flags) = start-unsound p n flags f
-
 pub start-answered : StartAnswered
 start-answered =
     record {
@@ -316,7 +344,6 @@ start-answered =
           );
       node-count = node-count;
       start-flags = start-flags;
-      unsound = unsound-3;
       afresh = λ p n flags e. ap (λ (q : Panel). q .ring) (start-by p n flags Accepted e);
       emptied = λ p n flags e. ap (λ (q : Panel). q .recorded) (start-by p n flags Accepted e);
       firmware = λ p n flags. marks-kept p n flags (λ (q : Panel). q .firmware) refl;

@@ -1,5 +1,6 @@
 -- What is proved of the definitions; the proofs are in proofs/, put together in proofs/Theorems.antt.
 use Prim.Native.Nat.{_<_, _≤_, ℕ}
+use lib.ListN.{getD, length}
 use mathlib.Core.Bool.{Bool, false, true}
 use mathlib.Core.List.{List}
 use mathlib.Core.Logic.{_↔_, _≢_, _⊎_}
@@ -8,13 +9,14 @@ use Rattle.panel_rules.specs.Answers.{answerOf, enterOf, marksAnswer, re
 use Rattle.panel_rules.specs.Asks.{Ask, Start, Step, after, answerOn, panel, rowsOf, verdictOn}
 use Rattle.panel_rules.specs.Rules.{firmwareSaid, mapSaid, panelEffect, second}
 use Rattle.panel_rules.specs.Soundness.{Matches, Sound, soundTest}
-use Rattle.panel_rules.specs.State.{AllAre, Panel, agreed, entered, firmwareAt, mapAt, marksNumber, nodes, recordNumber}
+use Rattle.panel_rules.specs.State.{AllAre, Panel, agreed, entered, firmwareAt, mapAt, marksNumber, nodes, recordNumber, wordOf}
 use Rattle.panel_rules.specs.declared.Record.the-variants.{Empty}
 use Rattle.refusal.specs.Table.{FirstIs, NoneHolds, Numbered, Row, codeOf}
 use Rattle.refusal.specs.declared.Refusal.{Refusal}
 use Rattle.refusal.specs.declared.Verdict.the-variants.{Accepted, Refused}
 use Rattle.ring_rules.specs.Answers as ring
 use Rattle.ring_rules.specs.Rules.{Announce, Idle, Kind, Pass, Probe, Take, Unknown, conclusive, effect, kindOf}
+use Rattle.ring_rules.specs.Soundness as ring-sound
 use Rattle.ring_rules.specs.Start as ring-start
 use Rattle.ring_rules.specs.Termination.{Quiet}
 use Rattle.runs.specs.Runs.{runOf}
@@ -25,6 +27,18 @@ pub record PanelTested : Type 0 where
   pub tested : (p : Panel) → Sound p → soundTest p ≡ true
   pub agreed : (p : Panel) → (agreed p ≡ true) ↔ ((word : Bool) × AllAre word p)
 
+-- Q-7's own sentence, in plain terms: "A panel is sound if its ring is, unused marks are old, and the record is empty while open and, when closed,
+-- equals its marks", of marks with a place for each of 96 nodes, as code has them.
+pub record SoundSentence : Type 0 where
+  pub exactly :
+      (p : Panel) → length (p .firmware) ≡ 96 → length (p .map) ≡ 96
+      → (soundTest p ≡ true)
+      ↔ (ring-sound.Sound (p .ring)
+      × ((i : ℕ) → p .ring .n ≤ i → i < 96 → (getD (p .firmware) i false ≡ false) × (getD (p .map) i false ≡ false))
+      × (p .ring .closed ≡ false → p .recorded ≡ Empty)
+      × (p .ring .closed ≡ true
+      → (i : ℕ) → i < p .ring .n → (wordOf (getD (p .firmware) i false) ≡ p .recorded) × (wordOf (getD (p .map) i false) ≡ p .recorded)))
+
 -- Demand 1 for a step or a start of any panel, with any numbers: accepted exactly where no row of its table applies, and then the next panel; a
 -- refusal is that of the first row that applies, and hands back the very panel. The answer's number is the table's.
 pub record PanelAnswered : Type 0 where
@@ -33,6 +47,8 @@ pub record PanelAnswered : Type 0 where
   pub next : (p : Panel) (a : Ask) → verdictOn p a ≡ Accepted → answerOn p a .panel ≡ after p a
   pub refused : (p : Panel) (a : Ask) (e : Refusal) → verdictOn p a ≡ Refused e → (row : Row) × (row .refusal ≡ e) × FirstIs (rowsOf p a) row
   pub same : (p : Panel) (a : Ask) (e : Refusal) → verdictOn p a ≡ Refused e → answerOn p a .panel ≡ p
+  -- a panel that is not sound is 3, whatever is asked
+  pub unsound : (p : Panel) → (Sound p → ⊥) → (a : Ask) → codeOf (verdictOn p a) ≡ 3
 
 -- Entering is the ring's start, with its numbers; all marks are old then and the record is empty. A refused one leaves a panel that is not sound.
 pub record EnterAnswered : Type 0 where
@@ -51,13 +67,14 @@ pub record PanelKept : Type 0 where
   pub run : (p : Panel) → Sound p → (ls : List Ask) → Sound (runOf panel p ls)
 
 -- The ring's part of every step is the ring's own: what is accepted here is accepted there, a take as the take of one message and a
--- close as the announcement, and leads to the ring's own next state. Where neither the word nor the marks refuse, the verdict is the ring's.
+-- close as the announcement, and leads to the ring's own next state. Where the marks agree, the verdict on a close is the ring's on the announcement.
 pub record RingsOwn : Type 0 where
   pub accepted : (p : Panel) (k : Kind) (i j : ℕ) → verdictOf p k i j ≡ Accepted → ring.verdictOf (p .ring) k i (second k j) ≡ Accepted
   pub effect : (p : Panel) (k : Kind) (i j : ℕ) → panelEffect p k i j .ring ≡ effect (p .ring) k i (second k j)
   pub next :
       (p : Panel) (k : Kind) (i j : ℕ) → verdictOf p k i j ≡ Accepted
       → answerOf p k i j .panel .ring ≡ ring.answerOf (p .ring) k i (second k j) .state
+  pub close : (p : Panel) → Sound p → agreed p ≡ true → (i j : ℕ) → verdictOf p Announce i j ≡ ring.verdictOf (p .ring) Announce i j
   -- send, idle, probe, pass and kinds that are none: the ring's own verdict, with the numbers handed in; marks and record are kept
   pub verdict :
       (p : Panel) → Sound p → (k : Kind) → k ≢ Take → k ≢ Announce → (i j : ℕ) → verdictOf p k i j ≡ ring.verdictOf (p .ring) k i j
@@ -109,14 +126,15 @@ pub record CloseAnswered : Type 0 where
   pub closes : (p : Panel) (i j : ℕ) → verdictOf p Announce i j ≡ Accepted → answerOf p Announce i j .panel .ring .closed ≡ true
   pub writes : (p : Panel) (i j : ℕ) → verdictOf p Announce i j ≡ Accepted → Matches (answerOf p Announce i j .panel)
   pub marks : (p : Panel) (i j : ℕ) → (answerOf p Announce i j .panel .firmware ≡ p .firmware) × (answerOf p Announce i j .panel .map ≡ p .map)
-  pub last : (p : Panel) → p .ring .closed ≡ true → (k : Kind) (i j : ℕ) → verdictOf p k i j ≡ Accepted → ⊥
+  -- and every step of a closed panel is 4
+  pub last : (p : Panel) → Sound p → p .ring .closed ≡ true → (k : Kind) (i j : ℕ) → codeOf (verdictOf p k i j) ≡ 4
 
 -- 14 is answered to a take alone, and 15 to a close alone; neither to a start.
 pub record NumbersAlone : Type 0 where
   pub word : (p : Panel) (a : Ask) → codeOf (verdictOn p a) ≡ 14 → (i j : ℕ) × (k : ℕ) × (a ≡ Step (record { kind = k; i = i; j = j })) × (kindOf k ≡ Take)
   pub marks : (p : Panel) (a : Ask) → codeOf (verdictOn p a) ≡ 15 → (i j : ℕ) × (k : ℕ) × (a ≡ Step (record { kind = k; i = i; j = j })) × (kindOf k ≡ Announce)
 
--- A start: 3 where the panel is not sound, 1 exactly where n is not from 1 to 96 or another than the panel's, 2 exactly where n is the panel's and
+-- A start on a sound panel: 1 exactly where n is not from 1 to 96 or another than the panel's, 2 exactly where n is the panel's and
 -- the flags are not n values from 0 to 3. An accepted one starts the ring afresh and empties the record; no start changes a mark.
 pub record StartAnswered : Type 0 where
   pub accepted :
@@ -128,7 +146,6 @@ pub record StartAnswered : Type 0 where
   pub start-flags :
       (p : Panel) (n : ℕ) (flags : List ℕ)
       → (codeOf (verdictOn p (Start n flags)) ≡ 2) ↔ (Sound p × (n ≡ nodes p) × (ring-start.flagsTest n flags ≡ false))
-  pub unsound : (p : Panel) → (Sound p → ⊥) → (a : Ask) → codeOf (verdictOn p a) ≡ 3
   pub afresh :
       (p : Panel) (n : ℕ) (flags : List ℕ) → verdictOn p (Start n flags) ≡ Accepted → startOf p n flags .panel .ring ≡ ring-start.firstState n flags
   pub emptied : (p : Panel) (n : ℕ) (flags : List ℕ) → verdictOn p (Start n flags) ≡ Accepted → startOf p n flags .panel .recorded ≡ Empty

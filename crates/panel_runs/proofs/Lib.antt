@@ -2,5 +2,6 @@ pub mod Trace
 pub mod Legs
 pub mod Next
 pub mod Marks
+pub mod Ends
 pub mod WholeRun
 pub mod Agreement

@@ -8,20 +8,21 @@ use mathlib.Core.Path.{_∙_, _≡_, ap, refl, sym}
 use native.Mathlib.Omega.{arith}
 use Rattle.laws.proofs.Columns.{set-at}
 use Rattle.laws.proofs.Tests.{false-true, neither}
-use Rattle.panel_rules.proofs.Accepted.{passed, ring-accepts}
+use Rattle.panel_rules.proofs.Accepted.{ring-accepts}
 use Rattle.panel_rules.proofs.Keeps.{start-keeps, starts, step-keeps}
 use Rattle.panel_rules.specs.Rules.{firmwareSaid, mapSaid, panelEffect, second}
 use Rattle.panel_rules.specs.Soundness.{Sound}
 use Rattle.panel_rules.specs.State.{Panel, firmwareAt, mapAt, nodes}
 use Rattle.runs.proofs.Runs.{Run, kept, stop, took}
-use Rattle.panel_runs.specs.Counts.{endedIn, firmwareAfter, firmwareTold, mapAfter, mapTold, releasedAfter, startedIn}
+use Rattle.panel_runs.specs.Counts.{AllMoves, endedIn, firmwareAfter, firmwareTold, mapAfter, mapTold, move-first, releasedAfter, startedIn}
 use Rattle.panel_rules.specs.Asks.{Ask, Start, Step, after, panel}
-use Rattle.runs.specs.Runs.{Accepts}
+use Rattle.runs.specs.Runs.{Accepts, Request}
 use Rattle.ring_rules.proofs.Accepted.{Rule, allowed, takes}
 use Rattle.ring_rules.proofs.Fields.{same-n}
 use Rattle.ring_rules.specs.Rules.{Announce, Idle, Kind, Pass, Probe, Send, Take, Unknown, effect}
 use Rattle.ring_rules.specs.Start as ring-start
 use Rattle.ring_rules.specs.State.{State}
+use Rattle.ring_rules.specs.Theorems.{TokenMove, passing, probing}
 use Rattle.ring_runs.specs.Counts.{isAnnounce, kind}
 
 -- ---- one accepted request
@@ -123,9 +124,22 @@ not-ended b (Step x ∷ acc) e =
     not-ended (isAnnounce (kind x) || b) acc (n .1) ∙ ap (λ (a : Bool). a || b) (n .0)
 not-ended b (Start n flags ∷ acc) e = absurd (false-true (sym e))
 
--- a closed panel takes no step, of any list, until a start
-pub closed-none : {p t : Panel} {ls acc : List Ask} → Run panel p ls t acc → p .ring .closed ≡ true → startedIn acc ≡ false → acc ≡ []
-closed-none stop c e = refl
-closed-none (took {s = p} {x = Step x} a r) c e = absurd (false-true (sym (passed p (kind x) (x .i) (x .j) a .running) ∙ c))
-closed-none (took {x = Start n flags} a r) c e = absurd (false-true (sym e))
-closed-none (kept r) c e = closed-none r c e
+-- a panel that takes no step takes none of any list, until a start
+pub none-taken :
+    {p t : Panel} {ls acc : List Ask} → Run panel p ls t acc → ((x : Request) → Accepts panel p (Step x) → ⊥) → startedIn acc ≡ false → acc ≡ []
+none-taken stop h e = refl
+none-taken (took {x = Step x} a r) h e = absurd (h x a)
+none-taken (took {x = Start n flags} a r) h e = absurd (false-true (sym e))
+none-taken (kept r) h e = none-taken r h e
+
+-- token moves leave every mark
+pub moves-keep : {p t : Panel} {ls acc : List Ask} → Run panel p ls t acc → AllMoves acc → (t .firmware ≡ p .firmware) × (t .map ≡ p .map)
+moves-keep stop m = (refl, refl)
+moves-keep (took {s = p} {x = Step x} a r) (move-first m ms) =
+    let w = moves-keep r ms in
+    let k = kept-marks p (kind x) (x .i) (x .j) m in (w .0 ∙ k .0, w .1 ∙ k .1)
+  where
+    kept-marks : (p : Panel) (k : Kind) (i j : ℕ) → TokenMove k → (panelEffect p k i j .firmware ≡ p .firmware) × (panelEffect p k i j .map ≡ p .map)
+    kept-marks p Probe i j probing = (refl, refl)
+    kept-marks p Pass i j passing = (refl, refl)
+moves-keep (kept r) m = moves-keep r m

@@ -15,7 +15,7 @@ use Rattle.panel_rules.specs.Asks.{Ask, panel}
 use Rattle.panel_rules.specs.Soundness.{marksTest, oldFrom, placesTest, soundTest}
 use Rattle.panel_rules.specs.State.{agreed, allSay}
 use Rattle.panel_runs.specs.Counts.{Leg, QuietBy, QuietOver, activeIn, legFrom, transitIn}
-use Rattle.panel_story.specs.Story.{StoryHolds, answers, closed, first, numbers, restored, rounds, steps, updates}
+use Rattle.panel_story.specs.Story.{SoundByOne, StoryHolds, answers, closed, first, numbers, restored, rounds, steps, updates}
 use Rattle.ring_rules.specs.Answers as ring
 use Rattle.ring_rules.specs.Rules.{conclusive, mayPass, mayProbe}
 use Rattle.ring_rules.specs.Soundness as ringSound
@@ -81,4 +81,19 @@ story-holds =
       recorded = refl;
       found = (refl, refl);
       told = told;
+    }
+
+pub sound-by-one : SoundByOne
+unfolding runOf acceptedOf sumTo isBlack blackened whitened _⊖_ isPositive isZero isSame conclusive mayProbe mayPass ringSound.shapeTest ringSound.rangeTest flowTest sumTest passiveAbove whiteTo gatheredTest safraTest unusedTest ringSound.closedTest ringSound.soundTest ring.verdictOf ringStart.activeFrom ringStart.colorFrom ringStart.flagsTest ringStart.firstState ringStart.startOf ringStart.startVerdict enterOf startVerdict verdictOf marksTest oldFrom placesTest soundTest agreed allSay
+sound-by-one =
+    record {
+      open-panel = refl;
+      open-marks = (refl, refl);
+      unused-firmware = (refl, refl);
+      unused-map = (refl, refl);
+      open-record = (refl, refl);
+      closed-panel = (refl, refl);
+      closed-record = (refl, refl);
+      closed-marks = (refl, refl);
+      closed-new = refl;
     }

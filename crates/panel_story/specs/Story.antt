@@ -3,13 +3,16 @@
 -- not as the others: 15, and nothing is accepted but a start. A new run puts node 2 right, and the panel is closed as new. Only statements are here;
 -- proofs/Story.antt proves them.
 use Prim.Native.Nat.{ℕ}
+use lib.ListN.{set}
 use mathlib.Core.Bool.{false, true}
 use mathlib.Core.List.{List, [], _++_, _∷_}
 use mathlib.Core.Path.{_≡_}
 use Rattle.panel_rules.specs.Answers.{enterOf}
 use Rattle.panel_rules.specs.Asks.{Ask, Start, Step, panel, verdictOn}
+use Rattle.panel_rules.specs.Soundness.{soundTest}
 use Rattle.panel_rules.specs.State.{Panel, agreed, firmwareAt, mapAt}
-use Rattle.panel_rules.specs.declared.Record.the-variants.{Empty, New}
+use Rattle.panel_rules.specs.declared.Record.{Record}
+use Rattle.panel_rules.specs.declared.Record.the-variants.{Empty, New, Old}
 use Rattle.panel_runs.specs.Counts.{QuietBy, firmwareBy, legOf, mapBy, releasedBy, transitIn}
 use Rattle.panel_runs.specs.WholeRun.{Countdown}
 use Rattle.refusal.specs.Table.{codeOf}
@@ -78,6 +81,36 @@ putRight =
 
 abbrev pub closed : List Ask
 closed = restored ++ rounds ++ putRight ++ steps (announce ∷ send 0 1 ∷ [])
+
+-- a panel of one node on which nothing was done: one token move, and it is closed as old
+abbrev pub one : Panel
+one = enterOf 1 (0 ∷ []) .panel
+
+abbrev pub shut : Panel
+shut = runOf panel one (steps (probe ∷ announce ∷ []))
+
+-- the same panel with another mark of a node, or another record
+abbrev pub firmwareSet : Panel → ℕ → Panel
+firmwareSet p i = record { ring = p .ring; firmware = set (p .firmware) i true; map = p .map; recorded = p .recorded }
+
+abbrev pub mapSet : Panel → ℕ → Panel
+mapSet p i = record { ring = p .ring; firmware = p .firmware; map = set (p .map) i true; recorded = p .recorded }
+
+abbrev pub recordSet : Panel → Record → Panel
+recordSet p w = record { ring = p .ring; firmware = p .firmware; map = p .map; recorded = w }
+
+-- What is sound and what is not, each by one thing alone: a mark that no node uses, a record while open, when closed none or the other word, or a mark
+-- unlike it.
+pub record SoundByOne : Type 0 where
+  pub open-panel : soundTest first ≡ true
+  pub open-marks : (soundTest (firmwareSet first 2) ≡ true) × (soundTest (mapSet first 2) ≡ true)
+  pub unused-firmware : (soundTest (firmwareSet first 3) ≡ false) × (soundTest (firmwareSet first 95) ≡ false)
+  pub unused-map : (soundTest (mapSet first 3) ≡ false) × (soundTest (mapSet first 95) ≡ false)
+  pub open-record : (soundTest (recordSet first Old) ≡ false) × (soundTest (recordSet first New) ≡ false)
+  pub closed-panel : (soundTest shut ≡ true) × (shut .recorded ≡ Old)
+  pub closed-record : (soundTest (recordSet shut Empty) ≡ false) × (soundTest (recordSet shut New) ≡ false)
+  pub closed-marks : (soundTest (firmwareSet shut 0) ≡ false) × (soundTest (mapSet shut 0) ≡ false)
+  pub closed-new : soundTest (recordSet (firmwareSet (mapSet shut 0) 0) New) ≡ true
 
 -- the numbers of all the answers
 abbrev pub answers : List ℕ
