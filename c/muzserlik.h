@@ -8,8 +8,9 @@
  *
  * A call
  *   - is answered with a number: 0 if it is accepted, else the number of the first check that it fails (enum muzserlik_answer). The checks of a
- *     call are made in the order of their numbers, but of a table 3 and then 13 come first, of a panel 3 comes first, and 14 next before 8; in
- *     reading, the first fault from the left decides. The driver answers with 100, 101 or 102, or with a refusal. Soundness is answered with 1 or 0;
+ *     call are made in the order of their numbers, but of a table 3 and then 13 come first, of a panel's start 3, and those of its step are made in
+ *     the order 3, 4, 5, 6, 14, 8, 15, 9; in reading, the first fault from the left decides. The driver answers with 100, 101 or 102, or with a
+ *     refusal. Soundness is answered with 1 or 0;
  *   - that is refused leaves every byte that it was lent as it was;
  *   - judges whatever a struct holds: one that is not sound is refused with 3 (README, "Sound states", says which are). One that was filled or changed by
  *     hand may happen to be sound, and is then taken as it is: let only these calls change a struct;

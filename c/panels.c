@@ -274,7 +274,7 @@ static void no_step(struct muzserlik_panel *panel, int told_to_close)
 
 /*
  * Firmware and map go to all three nodes, and a restore of the firmware to node 2, which is still on its way when the station asks to close: 8. Once
- * it is taken and all is quiet, the announce test holds after a round, but the marks are unequal: 15, and no step is accepted.
+ * it is taken and all is quiet, the announce test holds after two rounds, but the marks are unequal: 15, and no step is accepted.
  */
 static struct muzserlik_panel not_released(void)
 {

@@ -19,7 +19,7 @@ pub enum Mark {
     New,
 }
 
-/// A panel. A caller may hand in any ring, marks and record whatever.
+/// A panel. A caller may hand in any ring, marks and record.
 #[derive(Clone, Debug, PartialEq, Eq)]
 pub struct Panel {
     pub ring: Ring,

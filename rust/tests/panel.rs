@@ -453,7 +453,7 @@ fn a_quiet_panel_is_closed_or_stuck() {
     assert!(ended.iter().all(|&count| count > 150), "{ended:?}");
 }
 
-/// What is asked of a panel does not depend on its marks, but for a close that passes the announce test.
+/// What a panel answers does not depend on its marks, closes apart.
 #[test]
 fn marks_decide_a_close_alone() {
     let rng = &mut Rng::new(23);

@@ -59,7 +59,7 @@ pub record EnterAnswered : Type 0 where
   pub old : (n : ℕ) (flags : List ℕ) (i : ℕ) → (firmwareAt (enterOf n flags .panel) i ≡ false) × (mapAt (enterOf n flags .panel) i ≡ false)
   pub none : (n : ℕ) (flags : List ℕ) (e : Refusal) → enterOf n flags .verdict ≡ Refused e → soundTest (enterOf n flags .panel) ≡ false
 
--- Every entering, accepted start and accepted step gives a sound panel; so does every request to a sound one, and every list of them.
+-- Every entering, start and step that is accepted gives a sound panel; so does every request to a sound one, and every list of them.
 pub record PanelKept : Type 0 where
   pub enter : (n : ℕ) (flags : List ℕ) → enterOf n flags .verdict ≡ Accepted → Sound (enterOf n flags .panel)
   pub accepted : (p : Panel) (a : Ask) → verdictOn p a ≡ Accepted → Sound (answerOn p a .panel)
@@ -67,7 +67,7 @@ pub record PanelKept : Type 0 where
   pub run : (p : Panel) → Sound p → (ls : List Ask) → Sound (runOf panel p ls)
 
 -- The ring's part of every step is the ring's own: what is accepted here is accepted there, a take as the take of one message and a
--- close as the announcement, and leads to the ring's own next state. Where the marks agree, the verdict on a close is the ring's on the announcement.
+-- close as the announcement, and leads to the ring's own next state. In a sound panel whose marks agree, the verdict on a close is the ring's on the announcement.
 pub record RingsOwn : Type 0 where
   pub accepted : (p : Panel) (k : Kind) (i j : ℕ) → verdictOf p k i j ≡ Accepted → ring.verdictOf (p .ring) k i (second k j) ≡ Accepted
   pub effect : (p : Panel) (k : Kind) (i j : ℕ) → panelEffect p k i j .ring ≡ effect (p .ring) k i (second k j)
@@ -75,7 +75,7 @@ pub record RingsOwn : Type 0 where
       (p : Panel) (k : Kind) (i j : ℕ) → verdictOf p k i j ≡ Accepted
       → answerOf p k i j .panel .ring ≡ ring.answerOf (p .ring) k i (second k j) .state
   pub close : (p : Panel) → Sound p → agreed p ≡ true → (i j : ℕ) → verdictOf p Announce i j ≡ ring.verdictOf (p .ring) Announce i j
-  -- send, idle, probe, pass and kinds that are none: the ring's own verdict, with the numbers handed in; marks and record are kept
+  -- send, idle, probe, pass and kinds that are none: in a sound panel the ring's own verdict, with the numbers handed in; marks and record are kept
   pub verdict :
       (p : Panel) → Sound p → (k : Kind) → k ≢ Take → k ≢ Announce → (i j : ℕ) → verdictOf p k i j ≡ ring.verdictOf (p .ring) k i j
   pub kept :
@@ -83,7 +83,7 @@ pub record RingsOwn : Type 0 where
       → (answerOf p k i j .panel .firmware ≡ p .firmware) × (answerOf p k i j .panel .map ≡ p .map)
       × (answerOf p k i j .panel .recorded ≡ p .recorded)
 
--- A take: with a word from 1 to 4 the ring's own verdict on the take of one message; with any other, in a sound panel that is open and of a node of
+-- A take: in a sound panel, with a word from 1 to 4, the ring's own verdict on the take of one message; with any other, in a sound panel that is open and of a node of
 -- it, 14, whether or not it has a message. An accepted one sets the marks of its node as the word says and those of no other.
 pub record TakeAnswered : Type 0 where
   pub word : (p : Panel) → Sound p → (i j : ℕ) → 0 < j → j ≤ 4 → verdictOf p Take i j ≡ ring.verdictOf (p .ring) Take i 1
@@ -126,7 +126,7 @@ pub record CloseAnswered : Type 0 where
   pub closes : (p : Panel) (i j : ℕ) → verdictOf p Announce i j ≡ Accepted → answerOf p Announce i j .panel .ring .closed ≡ true
   pub writes : (p : Panel) (i j : ℕ) → verdictOf p Announce i j ≡ Accepted → Matches (answerOf p Announce i j .panel)
   pub marks : (p : Panel) (i j : ℕ) → (answerOf p Announce i j .panel .firmware ≡ p .firmware) × (answerOf p Announce i j .panel .map ≡ p .map)
-  -- and every step of a closed panel is 4
+  -- and every step of a sound panel that is closed is 4
   pub last : (p : Panel) → Sound p → p .ring .closed ≡ true → (k : Kind) (i j : ℕ) → codeOf (verdictOf p k i j) ≡ 4
 
 -- 14 is answered to a take alone, and 15 to a close alone; neither to a start.

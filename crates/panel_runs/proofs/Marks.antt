@@ -10,7 +10,7 @@ use Rattle.laws.proofs.Tests.{neither}
 use Rattle.panel_rules.specs.Asks.{Ask, Start, Step, panel}
 use Rattle.panel_rules.specs.Rules.{firmwareSaid, mapSaid}
 use Rattle.panel_rules.specs.State.{Panel, firmwareAt, mapAt}
-use Rattle.panel_runs.specs.Counts.{Silent, firmwareAfter, firmwareBy, firmwareTold, mapAfter, mapBy, mapTold, nothing, other, takesWord}
+use Rattle.panel_runs.specs.Counts.{Silent, firmwareAfter, firmwareBy, firmwareTold, isTake, mapAfter, mapBy, mapTold, nothing, other}
 use Rattle.panel_runs.specs.WholeRun.{MarksTold}
 use Rattle.ring_rules.specs.Rules.{Announce, Idle, Kind, Pass, Probe, Send, Take, Unknown}
 use Rattle.ring_runs.specs.Counts.{kind}
@@ -32,7 +32,7 @@ kept-by v w i j b m said h = go (eqb i b)
 firmware-kept : (j : ℕ) (m : Bool) → eqb j 1 ≡ false → eqb j 3 ≡ false → firmwareSaid j m ≡ m
 firmware-kept j m e f = rw (e, f)
 
-firmware-silent : (k : Kind) (i j : ℕ) (m : Bool) (b : ℕ) → (takesWord k && (eqb i b && (eqb j 1 || eqb j 3))) ≡ false → firmwareTold k i j m b ≡ m
+firmware-silent : (k : Kind) (i j : ℕ) (m : Bool) (b : ℕ) → (isTake k && (eqb i b && (eqb j 1 || eqb j 3))) ≡ false → firmwareTold k i j m b ≡ m
 firmware-silent Send i j m b e = refl
 firmware-silent Take i j m b e = kept-by 1 3 i j b m (firmwareSaid j m) (firmware-kept j m) e
 firmware-silent Idle i j m b e = refl
@@ -72,7 +72,7 @@ firmware-last p ls b word us vs e h s =
 map-kept : (j : ℕ) (m : Bool) → eqb j 2 ≡ false → eqb j 4 ≡ false → mapSaid j m ≡ m
 map-kept j m e f = rw (e, f)
 
-map-silent : (k : Kind) (i j : ℕ) (m : Bool) (b : ℕ) → (takesWord k && (eqb i b && (eqb j 2 || eqb j 4))) ≡ false → mapTold k i j m b ≡ m
+map-silent : (k : Kind) (i j : ℕ) (m : Bool) (b : ℕ) → (isTake k && (eqb i b && (eqb j 2 || eqb j 4))) ≡ false → mapTold k i j m b ≡ m
 map-silent Send i j m b e = refl
 map-silent Take i j m b e = kept-by 2 4 i j b m (mapSaid j m) (map-kept j m) e
 map-silent Idle i j m b e = refl

@@ -62,18 +62,18 @@ firmwareBy p ls b = firmwareAfter (firmwareAt p b) (acceptedOf panel p ls) b
 abbrev pub mapBy : Panel → List Ask → ℕ → Bool
 mapBy p ls b = mapAfter (mapAt p b) (acceptedOf panel p ls) b
 
--- a take by b with one of two words
-abbrev pub takesWord : Kind → Bool
-takesWord Send = false
-takesWord Take = true
-takesWord Idle = false
-takesWord Probe = false
-takesWord Pass = false
-takesWord Announce = false
-takesWord Unknown = false
+abbrev pub isTake : Kind → Bool
+isTake Send = false
+isTake Take = true
+isTake Idle = false
+isTake Probe = false
+isTake Pass = false
+isTake Announce = false
+isTake Unknown = false
 
+-- a take by b with the word v or w
 abbrev pub speaks : ℕ → ℕ → ℕ → Ask → Bool
-speaks v w b (Step x) = takesWord (kind x) && (eqb (x .i) b && (eqb (x .j) v || eqb (x .j) w))
+speaks v w b (Step x) = isTake (kind x) && (eqb (x .i) b && (eqb (x .j) v || eqb (x .j) w))
 speaks v w b (Start n flags) = false
 
 -- none of a list is one

@@ -68,7 +68,8 @@ story-holds =
     record {
       entered = refl;
       travelling = refl;
-      marks-new = refl;
+      passive = (refl, refl, refl);
+      marks-new = (refl, refl);
       asked = refl;
       quiet = quiet;
       still-open = refl;

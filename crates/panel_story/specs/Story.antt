@@ -10,10 +10,10 @@ use mathlib.Core.Path.{_≡_}
 use Rattle.panel_rules.specs.Answers.{enterOf}
 use Rattle.panel_rules.specs.Asks.{Ask, Start, Step, panel, verdictOn}
 use Rattle.panel_rules.specs.Soundness.{soundTest}
-use Rattle.panel_rules.specs.State.{Panel, agreed, firmwareAt, mapAt}
+use Rattle.panel_rules.specs.State.{Panel, agreed, agreedWord}
 use Rattle.panel_rules.specs.declared.Record.{Record}
 use Rattle.panel_rules.specs.declared.Record.the-variants.{Empty, New, Old}
-use Rattle.panel_runs.specs.Counts.{QuietBy, firmwareBy, legOf, mapBy, releasedBy, transitIn}
+use Rattle.panel_runs.specs.Counts.{QuietBy, activeIn, firmwareBy, legOf, mapBy, releasedBy, transitIn}
 use Rattle.panel_runs.specs.WholeRun.{Countdown}
 use Rattle.refusal.specs.Table.{codeOf}
 use Rattle.refusal.specs.declared.Verdict.the-variants.{Accepted}
@@ -121,7 +121,8 @@ pub record StoryHolds : Type 0 where
   pub entered : enterOf 3 flags .verdict ≡ Accepted
   -- the packing asks with one message in transit, every node passive and every mark new: 8
   pub travelling : transitIn (legOf first packing) 2 ≡ 1
-  pub marks-new : agreed (runOf panel first packing) ≡ true
+  pub passive : (activeIn (legOf first packing) 0 ≡ false) × (activeIn (legOf first packing) 1 ≡ false) × (activeIn (legOf first packing) 2 ≡ false)
+  pub marks-new : (agreed (runOf panel first packing) ≡ true) × (agreedWord (runOf panel first packing) ≡ New)
   pub asked : codeOf (verdictOn (runOf panel first packing) (Step announce)) ≡ 8
   -- once it is taken and node 2 is passive again, the ring is quiet, node 2's firmware is old, and exactly six token moves are left
   pub quiet : QuietBy first restored
@@ -135,6 +136,6 @@ pub record StoryHolds : Type 0 where
   -- put right by a new run, which keeps the other marks: closed, and every mark is new
   pub released : releasedBy first closed ≡ true
   pub recorded : runOf panel first closed .recorded ≡ New
-  pub found : (firmwareAt (runOf panel first closed) 2 ≡ true) × (mapAt (runOf panel first closed) 2 ≡ true)
+  pub found : (agreed (runOf panel first closed) ≡ true) × (agreedWord (runOf panel first closed) ≡ New)
   -- each answer
   pub told : numbers first closed ≡ answers
