@@ -13,21 +13,18 @@ use Rattle.laws.proofs.Tests.{both, both-true}
 use Rattle.lent.proofs.Ring.{ring-back, ring-held, withNodes}
 use Rattle.lent.specs.Ring.{Lent, lentOf, truthsTest}
 use Rattle.lent_panel.specs.Panel.{AskedTo, EnteredTo, LentPanel, askVerdict, isRecord, lentPanelOf, panelIn, panelTruths, recordOf}
-use Rattle.panel_rules.proofs.Keeps.{starts}
 use Rattle.panel_rules.proofs.Theorems.{answer-is, panel-answered, panel-unread, start-answered}
 use Rattle.panel_rules.specs.Answers.{Answer, enterOf}
-use Rattle.panel_rules.specs.Asks.{Ask, Start, Step, after, answerOn, stepAsk, verdictOn}
+use Rattle.panel_rules.specs.Asks.{Ask, Start, after, answerOn, stepAsk, verdictOn}
 use Rattle.panel_rules.specs.State.{Panel, nodes, recordNumber}
 use Rattle.panel_rules.specs.declared.Record.{Record}
 use Rattle.panel_rules.specs.declared.Record.the-variants.{Empty, New, Old}
+use Rattle.panel_runs.proofs.Trace.{n-after}
 use Rattle.refusal.specs.Table.{codeOf, settle}
 use Rattle.refusal.specs.declared.Refusal.{Refusal}
 use Rattle.refusal.specs.declared.Refusal.the-variants.{Unsound}
 use Rattle.refusal.specs.declared.Verdict.{Verdict}
 use Rattle.refusal.specs.declared.Verdict.the-variants.{Accepted, Refused}
-use Rattle.ring_rules.proofs.Fields.{same-n}
-use Rattle.ring_rules.specs.Rules.{kindOf}
-use Rattle.ring_rules.specs.Start.{firstState}
 
 -- ---- the fields of a panel
 
@@ -82,20 +79,12 @@ panel-back l f =
 
 -- ---- what requests leave
 
-first-n : (n : ℕ) (flags : List ℕ) → firstState n flags .n ≡ n
-unfolding firstState
-first-n n flags = refl
-
-after-nodes : (p : Panel) (a : Ask) → verdictOn p a ≡ Accepted → nodes (after p a) ≡ nodes p
-after-nodes p (Step x) e = same-n (p .ring) (kindOf (x .kind)) (x .i) _
-after-nodes p (Start n flags) e = first-n n flags ∙ starts p n flags e .same-n
-
 -- no request changes the number of nodes
 pub nodes-kept : (p : Panel) (a : Ask) → nodes (answerOn p a .panel) ≡ nodes p
 nodes-kept p a = go (verdictOn p a) refl
   where
     go : (v : Verdict) → verdictOn p a ≡ v → nodes (answerOn p a .panel) ≡ nodes p
-    go Accepted e = ap nodes (panel-answered .next p a e) ∙ after-nodes p a e
+    go Accepted e = ap nodes (panel-answered .next p a e) ∙ n-after p a e
     go (Refused x) e = ap nodes (panel-answered .same p a x e)
 
 -- ---- entering

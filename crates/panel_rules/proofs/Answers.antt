@@ -4,21 +4,19 @@ use borrow.Author.Tests.{le-leb, lt-leb}
 use mathlib.Core.Bool.{Bool, false, not, true}
 use mathlib.Core.List.{List}
 use mathlib.Core.Path.{_∙_, _≡_, ap, refl, sym}
-use Rattle.laws.proofs.Tests.{false-true}
 use Rattle.panel_rules.proofs.Soundness.{true-sound}
 use Rattle.panel_rules.specs.Answers.{Answer, answerOf, panelRows, startOf, startVerdict, verdictOf}
 use Rattle.panel_rules.specs.Rules.{badWord, isWord, panelEffect, restarted, second, unequal}
 use Rattle.panel_rules.specs.Soundness.{Sound, soundTest}
-use Rattle.panel_rules.specs.State.{Panel, agreed, nodes}
-use Rattle.refusal.proofs.Table.{not-both}
+use Rattle.panel_rules.specs.State.{Panel, nodes}
 use Rattle.refusal.specs.Table.{firstOf, settle, stepRows}
 use Rattle.refusal.specs.declared.Refusal.{Refusal}
-use Rattle.refusal.specs.declared.Refusal.the-variants.{Closed, JobWord, UnequalMarks, UnknownNode, Unsound}
+use Rattle.refusal.specs.declared.Refusal.the-variants.{JobWord, UnknownNode, Unsound}
 use Rattle.refusal.specs.declared.Verdict.{Verdict}
-use Rattle.refusal.specs.declared.Verdict.the-variants.{Accepted, Refused}
+use Rattle.refusal.specs.declared.Verdict.the-variants.{Refused}
 use Rattle.ring_rules.proofs.Soundness as ring-sound
 use Rattle.ring_rules.specs.Answers as ring
-use Rattle.ring_rules.specs.Rules.{Announce, Kind, Take, conclusive, guard}
+use Rattle.ring_rules.specs.Rules.{Kind, Take, guard}
 use Rattle.ring_rules.specs.Soundness as ring-sound-specs
 use Rattle.ring_rules.specs.State.{State}
 
@@ -70,44 +68,11 @@ module _ (p : Panel) (s : Sound p) where
       by-tests p k i j _ _ _ _ _ _ _ _ (true-sound p s) refl refl refl b refl q refl
       ∙ sym (ring-by-sound (p .ring) k i (second k j) ring-true)
 
-  -- a take whose word is none: 4, 6 or 14, before the rule's condition
+  -- a take of an open panel whose word is none: 6 or 14, before the rule's condition
   module _ (i j : ℕ) where
-    pub word-closed : p .ring .closed ≡ true → verdictOf p Take i j ≡ Refused Closed
-    word-closed c = by-tests p Take i j _ _ _ _ _ _ _ _ (true-sound p s) c refl refl refl refl refl refl
-
     module _ (c : p .ring .closed ≡ false) where
       pub word-outside : nodes p ≤ i → verdictOf p Take i j ≡ Refused UnknownNode
       word-outside h = by-tests p Take i j _ _ _ _ _ _ _ _ (true-sound p s) c refl (le-leb _ _ h) refl refl refl refl
 
       pub word-bad : i < nodes p → isWord j ≡ false → verdictOf p Take i j ≡ Refused JobWord
       word-bad h b = by-tests p Take i j _ _ _ _ _ _ _ _ (true-sound p s) c refl (lt-leb _ _ h) (ap not b) refl refl refl
-
-  -- a close: what the ring refuses is refused so; what it lets through is refused with 15 where marks are unequal
-  module _ (i j : ℕ) where
-    close-rows : verdictOf p Announce i j ≡ firstOf (panelRows true (p .ring .closed) false false false (conclusive (p .ring)) (not (agreed p)) false)
-    close-rows = by-tests p Announce i j _ _ _ _ _ _ _ _ (true-sound p s) refl refl refl refl refl refl refl
-
-    pub close-refused : (e : Refusal) → ring.verdictOf (p .ring) Announce i j ≡ Refused e → verdictOf p Announce i j ≡ Refused e
-    close-refused e h =
-        close-rows
-        ∙ go (p .ring .closed) (conclusive (p .ring)) (not (agreed p)) (sym (ring-by-sound (p .ring) Announce i j ring-true) ∙ h)
-      where
-        go :
-            (c g q : Bool) → firstOf (stepRows true c false false g false) ≡ Refused e
-            → firstOf (panelRows true c false false false g q false) ≡ Refused e
-        go true g q h = h
-        go false false q h = h
-        go false true q h = absurd (not-both refl h)
-
-    pub close-unequal : ring.verdictOf (p .ring) Announce i j ≡ Accepted → agreed p ≡ false → verdictOf p Announce i j ≡ Refused UnequalMarks
-    close-unequal h a =
-        close-rows
-        ∙ go (p .ring .closed) (conclusive (p .ring)) (not (agreed p)) (ap not a) (sym (ring-by-sound (p .ring) Announce i j ring-true) ∙ h)
-      where
-        go :
-            (c g q : Bool) → q ≡ true → firstOf (stepRows true c false false g false) ≡ Accepted
-            → firstOf (panelRows true c false false false g q false) ≡ Refused UnequalMarks
-        go true g q e h = absurd (not-both h refl)
-        go false false q e h = absurd (not-both h refl)
-        go false true true e h = refl
-        go false true false e h = absurd (false-true e)

@@ -112,7 +112,7 @@ starts p n flags e = go (none-holds (startTable p n flags) e)
           accepted = accepts (ring-start.startTable n flags) rest;
         }
 
-first-n : (n : ℕ) (flags : List ℕ) → ring-start.firstState n flags .n ≡ n
+pub first-n : (n : ℕ) (flags : List ℕ) → ring-start.firstState n flags .n ≡ n
 unfolding ring-start.firstState
 first-n n flags = refl
 

@@ -4,4 +4,5 @@ pub mod Next
 pub mod Marks
 pub mod Ends
 pub mod WholeRun
+pub mod Agreed
 pub mod Agreement

@@ -1,14 +1,14 @@
 -- What a panel accepts next, from what its ring does. Assumes nothing.
-use Prim.Native.Nat.{ℕ}
 use borrow.Author.Tests.{not-false}
 use mathlib.Core.Bool.{false, not, true}
 use mathlib.Core.Logic.{_↔_, _⊎_, inl, inr}
 use mathlib.Core.Path.{_∙_, _≡_, ap, refl, subst, sym}
 use Rattle.laws.proofs.Tests.{false-true, split}
 use Rattle.panel_rules.proofs.Accepted.{panel-accepts, passed, ring-accepts}
-use Rattle.panel_rules.proofs.Answers.{close-unequal}
+use Rattle.panel_rules.proofs.Answers.{ring-verdict}
+use Rattle.panel_rules.proofs.Numbers.{close-15}
 use Rattle.panel_rules.specs.Answers.{verdictOf}
-use Rattle.panel_rules.specs.Rules.{badWord, second, unequal}
+use Rattle.panel_rules.specs.Rules.{badWord, unequal}
 use Rattle.panel_rules.specs.Soundness.{Sound}
 use Rattle.panel_rules.specs.State.{Panel, agreed}
 use Rattle.panel_runs.specs.Counts.{toRing}
@@ -16,7 +16,6 @@ use Rattle.panel_rules.specs.Asks.{Step, panel}
 use Rattle.runs.specs.Runs.{Accepts, Request}
 use Rattle.panel_runs.specs.WholeRun.{OneOfThree, close, stuck, token-moves}
 use Rattle.refusal.specs.Table.{codeOf}
-use Rattle.refusal.specs.declared.Verdict.the-variants.{Accepted}
 use Rattle.ring_rules.proofs.Accepted.{Rule, accepted, allowed, announces, conclusive-true, true-conclusive}
 use Rattle.ring_rules.proofs.Driver.{never}
 use Rattle.ring_rules.specs.Answers as ring-answers
@@ -38,25 +37,17 @@ announce-test r o x e = (
     go : Rule r (x .i) (x .j) Announce → conclusive r ≡ true
     go (announces c) = true-conclusive r c
 
-record Plain (p : Panel) (k : Kind) (j : ℕ) : Type 0 where
-  word : badWord k j ≡ false
-  equal : unequal p k ≡ false
-  same : second k j ≡ j
-
-plain : (p : Panel) (k : Kind) (j : ℕ) → TokenMove k → Plain p k j
-plain p Probe j probing = record { word = refl; equal = refl; same = refl }
-plain p Pass j passing = record { word = refl; equal = refl; same = refl }
-
 module _ (p : Panel) (s : Sound p) (open-ring : p .ring .closed ≡ false) where
   abbrev running : ring-sound.Open (p .ring)
   running = record { sound = s .ring; running = open-ring }
 
   -- a token move of the ring is accepted at the station
   moves : (x : Request) → Accepts ring (p .ring) x → TokenMove (kind x) → Accepts panel p (Step x)
-  moves x a m =
-      let q = plain p (kind x) (x .j) m in
-      panel-accepts p (kind x) (x .i) (x .j) s (q .word) (q .equal)
-      (ap (λ (j : ℕ). ring-answers.verdictOf (p .ring) (kind x) (x .i) j) (q .same) ∙ a)
+  moves x a m = go (kind x) m ∙ a
+    where
+      go : (k : Kind) → TokenMove k → verdictOf p k (x .i) (x .j) ≡ ring-answers.verdictOf (p .ring) k (x .i) (x .j)
+      go Probe probing = ring-verdict p s Probe (x .i) (x .j) refl refl
+      go Pass passing = ring-verdict p s Pass (x .i) (x .j) refl refl
 
   ring-takes : (y : Request) → Accepts panel p (Step y) → Accepts ring (p .ring) (toRing y)
   ring-takes y a = ring-accepts p (kind y) (y .i) (y .j) a
@@ -75,10 +66,6 @@ module _ (p : Panel) (s : Sound p) (open-ring : p .ring .closed ≡ false) where
       test : conclusive (p .ring) ≡ true
       test = announce-test (p .ring) running announce refl .0 (every announce refl)
 
-      -- at the kind of a close
-      at-close : (x : Request) → kind x ≡ Announce → ring-answers.verdictOf (p .ring) Announce (x .i) (x .j) ≡ Accepted
-      at-close x e = ap (λ (k : Kind). ring-answers.verdictOf (p .ring) k (x .i) (x .j)) (sym e) ∙ every x e
-
       go : (agreed p ≡ true) ⊎ (agreed p ≡ false) → OneOfThree p
       go (inl t) =
           close test t
@@ -86,5 +73,5 @@ module _ (p : Panel) (s : Sound p) (open-ring : p .ring .closed ≡ false) where
           (λ y a. only (toRing y) (ring-takes y a))
       go (inr f) =
           stuck test f
-          (λ x e. ap codeOf (ap (λ (k : Kind). verdictOf p k (x .i) (x .j)) e ∙ close-unequal p s (x .i) (x .j) (at-close x e) f))
+          (λ x e. ap (λ (k : Kind). codeOf (verdictOf p k (x .i) (x .j))) e ∙ close-15 p (x .i) (x .j) .1 (s, open-ring, test, f))
           (λ y a. false-true (sym f ∙ not-false (agreed p) (ap (unequal p) (sym (only (toRing y) (ring-takes y a))) ∙ passed p (kind y) (y .i) (y .j) a .equal)))

@@ -9,11 +9,12 @@ use native.Mathlib.Omega.{arith}
 use Rattle.laws.proofs.Columns.{set-at}
 use Rattle.laws.proofs.Tests.{false-true, neither}
 use Rattle.panel_rules.proofs.Accepted.{ring-accepts}
-use Rattle.panel_rules.proofs.Keeps.{start-keeps, starts, step-keeps}
+use Rattle.panel_rules.proofs.Keeps.{first-n, starts}
+use Rattle.panel_rules.proofs.Theorems.{after-sound}
 use Rattle.panel_rules.specs.Rules.{firmwareSaid, mapSaid, panelEffect, second}
 use Rattle.panel_rules.specs.Soundness.{Sound}
 use Rattle.panel_rules.specs.State.{Panel, firmwareAt, mapAt, nodes}
-use Rattle.runs.proofs.Runs.{Run, kept, stop, took}
+use Rattle.runs.proofs.Runs.{Run, kept, run-keeps, stop, took}
 use Rattle.panel_runs.specs.Counts.{AllMoves, endedIn, firmwareAfter, firmwareTold, mapAfter, mapTold, move-first, releasedAfter, startedIn}
 use Rattle.panel_rules.specs.Asks.{Ask, Start, Step, after, panel}
 use Rattle.runs.specs.Runs.{Accepts, Request}
@@ -27,17 +28,9 @@ use Rattle.ring_runs.specs.Counts.{isAnnounce, kind}
 
 -- ---- one accepted request
 
-pub first-n : (n : ℕ) (flags : List ℕ) → ring-start.firstState n flags .n ≡ n
-unfolding ring-start.firstState
-first-n n flags = refl
-
 pub first-closed : (n : ℕ) (flags : List ℕ) → ring-start.firstState n flags .closed ≡ false
 unfolding ring-start.firstState
 first-closed n flags = refl
-
-pub sound-after : (p : Panel) (o : Ask) → Accepts panel p o → Sound (after p o)
-sound-after p (Step x) a = step-keeps p (kind x) (x .i) (x .j) a
-sound-after p (Start n flags) a = start-keeps p n flags a
 
 pub n-after : (p : Panel) (o : Ask) → Accepts panel p o → nodes (after p o) ≡ nodes p
 n-after p (Step x) a = same-n (p .ring) (kind x) (x .i) (second (kind x) (x .j))
@@ -82,9 +75,7 @@ module _ (p : Panel) (s : Sound p) (b : ℕ) where
 -- ---- whole chains
 
 pub run-sound : {p t : Panel} {ls acc : List Ask} → Run panel p ls t acc → Sound p → Sound t
-run-sound stop s = s
-run-sound (took {s = p} {x = o} a c) s = run-sound c (sound-after p o a)
-run-sound (kept c) s = run-sound c s
+run-sound = run-keeps panel Sound (λ q a _ e. after-sound q a e)
 
 pub run-n : {p t : Panel} {ls acc : List Ask} → Run panel p ls t acc → nodes t ≡ nodes p
 run-n stop = refl
@@ -101,19 +92,19 @@ run-closed (kept c) = run-closed c
 pub run-firmware : {p t : Panel} {ls acc : List Ask} → Run panel p ls t acc → Sound p → (b : ℕ) → firmwareAt t b ≡ firmwareAfter (firmwareAt p b) acc b
 run-firmware stop s b = refl
 run-firmware (took {s = p} {x = Step x} {acc = acc} a c) s b =
-    run-firmware c (sound-after p (Step x) a) b
+    run-firmware c (after-sound p (Step x) a) b
     ∙ ap (λ (m : Bool). firmwareAfter m acc b)
     (firmware-told p s b (kind x) (x .i) (x .j) (allowed (p .ring) (kind x) (x .i) (second (kind x) (x .j)) (ring-accepts p (kind x) (x .i) (x .j) a) .by))
-run-firmware (took {s = p} {x = Start n flags} a c) s b = run-firmware c (sound-after p (Start n flags) a) b
+run-firmware (took {s = p} {x = Start n flags} a c) s b = run-firmware c (after-sound p (Start n flags) a) b
 run-firmware (kept c) s b = run-firmware c s b
 
 pub run-map : {p t : Panel} {ls acc : List Ask} → Run panel p ls t acc → Sound p → (b : ℕ) → mapAt t b ≡ mapAfter (mapAt p b) acc b
 run-map stop s b = refl
 run-map (took {s = p} {x = Step x} {acc = acc} a c) s b =
-    run-map c (sound-after p (Step x) a) b
+    run-map c (after-sound p (Step x) a) b
     ∙ ap (λ (m : Bool). mapAfter m acc b)
     (map-told p s b (kind x) (x .i) (x .j) (allowed (p .ring) (kind x) (x .i) (second (kind x) (x .j)) (ring-accepts p (kind x) (x .i) (x .j) a) .by))
-run-map (took {s = p} {x = Start n flags} a c) s b = run-map c (sound-after p (Start n flags) a) b
+run-map (took {s = p} {x = Start n flags} a c) s b = run-map c (after-sound p (Start n flags) a) b
 run-map (kept c) s b = run-map c s b
 
 -- with no close and no start, what was open or released stays so

@@ -1,5 +1,5 @@
 -- THE AGREEMENT of a panel's ring with EWD998, its SendMsg widened to any receiver (document 02, Q-4), in both directions. Only statements are here;
--- proofs/Agreement.antt proves them. `shown` and `varsOf` (ring_runs) are a ring as EWD998 sees it, and `Action` is which request stands for which
+-- proofs/Agreed.antt, of one step, and proofs/Agreement.antt prove them. `shown` and `varsOf` (ring_runs) are a ring as EWD998 sees it, and `Action` is which request stands for which
 -- action: a take is the receipt of one message, whatever its job word, and a close stands in the place of the announcement.
 use Prim.Native.Nat.{_<_, _≤_, ℕ}
 use mathlib.Core.Bool.{false, true}
@@ -76,7 +76,7 @@ pub record RunTo (p : Panel) {N : ℕ} (t : Vars N) (m : ℕ) : Type 0 where
   pub there : varsOf N (runOf panel p requests .ring) ≡ t
 
 -- a panel that is entered, and then such a run
-pub record EnteredTo {N : ℕ} (t : Vars N) (m : ℕ) : Type 0 where
+pub record EnterRunTo {N : ℕ} (t : Vars N) (m : ℕ) : Type 0 where
   pub flags : List ℕ
   pub entered : enterOf N flags .verdict ≡ Accepted
   pub run : RunTo (enterOf N flags .panel) t m
@@ -99,6 +99,6 @@ pub record RunsAgree : Type 0 where
       → Reachable h (varsOf N (runOf panel (enterOf N flags .panel) ls .ring)) (sendsMade (runOf panel (enterOf N flags .panel) ls .ring))
   -- and each reachable state is that of a panel which is entered, and of a run from any sound panel of that many nodes, open, released or stuck,
   -- whatever its marks
-  pub reachable-is-entered : {N : ℕ} (h : 0 < N) → N ≤ 96 → (t : Vars N) (m : ℕ) → Reachable h t m → m ≤ sendLimit → EnteredTo t m
+  pub reachable-is-entered : {N : ℕ} (h : 0 < N) → N ≤ 96 → (t : Vars N) (m : ℕ) → Reachable h t m → m ≤ sendLimit → EnterRunTo t m
   pub reachable-is-run :
       (p : Panel) → Sound p → {N : ℕ} (h : 0 < N) → N ≡ nodes p → (t : Vars N) (m : ℕ) → Reachable h t m → m ≤ sendLimit → RunTo p t m
