@@ -1,4 +1,6 @@
 // Decimal numbers and fixed words in text: read at a place of a slice, written at a place of a buffer.
+#![tactic(auto)]
+
 ghost use Rattle.std.specs.Prelude.{◌≡◌, ◌+◌, ◌≤◌, length, get_or, drop};
 ghost use Rattle.decimal.specs.Text.{put, decimal, last_digits};
 ghost use Rattle.decimal.specs.Word.{starts};
@@ -63,7 +65,7 @@ fn next_value(v: usize, b: u8) -> usize
 }
 
 // A run of digits: its value, NUMBER_CAP for all above NUMBER_LIMIT, and the index past it.
-#[derive(Drop)]
+#[derive(Clone, Copy)]
 pub struct Scan {
     pub value: usize,
     pub at: usize,
@@ -86,7 +88,7 @@ fn scan_digits(s: &[u8], at: usize) -> Scan
 }
 
 // A number's value, and the index past its last digit.
-#[derive(Drop)]
+#[derive(Clone, Copy)]
 pub enum Num {
     Value(usize, usize),
     Wrong,

@@ -1,4 +1,6 @@
 // The first line of a log: a ring with its start flags, or a tree with its root.
+#![tactic(auto)]
+
 ghost use Rattle.std.specs.Prelude.{◌≡◌, max};
 ghost use Rattle.first_line.specs.Start.{no_first, ring_first, tree_first, flagged, until, seen_of};
 ghost use Rattle.first_line.specs.Read.{no_marks, marks_of, entries_at, after_black, after_active, lists_at, ring_after, root_after, tree_after, start_at, line_first, first_at};
@@ -8,7 +10,7 @@ use decimal::{Num, has};
 use forms::{ends_line, spaced};
 use refusal::RING_NODES;
 
-#[derive(Drop)]
+#[derive(Clone, Copy)]
 pub enum FirstKind {
     Ring,
     Tree,
@@ -18,7 +20,7 @@ pub enum FirstKind {
 // What a first line says, or its form. A ring: its n nodes, a start flag for each of the first 96 (1 active, 2 black), and one more than the largest
 // node that it names. Without lists it names all n nodes active, and none black: every flag is 1, and a start takes the first n. A tree: its n nodes
 // and its root. `end` is the index past the form, or past the byte 10 of its line.
-#[derive(Drop)]
+#[derive(Clone, Copy)]
 pub struct First {
     pub kind: FirstKind,
     pub n: usize,
@@ -29,7 +31,7 @@ pub struct First {
 }
 
 // The lists as far as they are read: the flags, one more than the largest node, the index of the next byte, and no fault so far.
-#[derive(Drop)]
+#[derive(Clone, Copy)]
 pub struct Marks {
     pub flags: [u8; RING_NODES],
     pub top: usize,

@@ -1,4 +1,6 @@
 // Truths that are lent as bytes: 1 for true, 0 for false. A byte above 1 is no flag. And numbers that are handed in wide.
+#![tactic(auto)]
+
 ghost use Rattle.std.specs.Prelude.{◌≡◌, length};
 ghost use Rattle.flag_bytes.specs.Flags.{are_flags, flags_of, byte_of, bytes_of};
 ghost use Rattle.flag_bytes.specs.Narrow.{kind_byte, limit_word};

@@ -1,4 +1,6 @@
 // What the steps of a log are, and their numbers, read where they stand in a line.
+#![tactic(auto)]
+
 ghost use Rattle.std.specs.Prelude.{◌≡◌};
 ghost use Rattle.forms.specs.Read.{one, two, one_or_two, spaced_of, closed_of, second_of, raised, args_of, ends_line};
 
@@ -8,7 +10,7 @@ use decimal::{Num, byte_at, has, short_number};
 pub const LINE_BYTES: usize = 700;
 
 // A step of the ring, as it is written: `TakeOne(i)` is `(take i)`, `Take(i, n)` is `(take i n)`.
-#[derive(Drop)]
+#[derive(Clone, Copy)]
 pub enum RingStep {
     Send(usize, usize),
     TakeOne(usize),
@@ -20,7 +22,7 @@ pub enum RingStep {
 }
 
 // A step of the tree.
-#[derive(Drop)]
+#[derive(Clone, Copy)]
 pub enum TreeStep {
     Send(usize, usize),
     Take(usize, usize),
@@ -31,20 +33,20 @@ pub enum TreeStep {
 }
 
 // What stands at a place: a step, and the index past its form, or past the byte 10 of its line.
-#[derive(Drop)]
+#[derive(Clone, Copy)]
 pub enum RingLine {
     Step(RingStep, usize),
     NotAForm,
 }
 
-#[derive(Drop)]
+#[derive(Clone, Copy)]
 pub enum TreeLine {
     Step(TreeStep, usize),
     NotAForm,
 }
 
 // The numbers after a word, 0 for those that it has not, and the index past the form. Where the second may be missing, it is told as one more.
-#[derive(Drop)]
+#[derive(Clone, Copy)]
 pub enum Args {
     Found(usize, usize, usize),
     Bad,

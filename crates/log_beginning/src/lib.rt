@@ -1,4 +1,6 @@
 // The first line of a log: what it says begins a run, or is refused.
+#![tactic(auto)]
+
 ghost use Rattle.std.specs.Prelude.{◌≤◌, length};
 ghost use Rattle.log_rules.specs.Answers.{answer_bytes, fresh, over, opened_by, first_told, update_opened, update_first, line_told};
 ghost use Rattle.first_line.specs.Meaning.{Flags};
@@ -14,7 +16,7 @@ use tree::Tree;
 use update_forms::update_start;
 
 // What a log has come to: nothing is read yet; a ring's run; a tree's run; a table's run; or the first line was refused.
-#[derive(Drop)]
+#[derive(Clone, Copy)]
 pub enum Stage {
     Fresh,
     Ring,
@@ -24,7 +26,7 @@ pub enum Stage {
 }
 
 // What a first line begins, and the index past its answer. The detectors that it does not begin are blank.
-#[derive(Drop)]
+#[derive(Clone, Copy)]
 pub struct Opening {
     pub stage: Stage,
     pub ring: Ring,

@@ -1,4 +1,6 @@
 // The end lines of the log program, written into a lent buffer.
+#![tactic(auto)]
+
 ghost use Rattle.std.specs.Prelude.{◌+◌, ◌≤◌, length};
 ghost use Rattle.log_rules.specs.Answers.{ring_end, ring_end_by, tree_end, update_end};
 ghost use Rattle.log_text.specs.Wrote.{Wrote};

@@ -1,4 +1,6 @@
 // The end of a log: its last line, where byte 10 is missing, and the end line.
+#![tactic(auto)]
+
 ghost use Rattle.std.specs.Prelude.{◌≤◌, length};
 ghost use Rattle.log_rules.specs.Answers.{answer_bytes};
 ghost use Rattle.log_text.specs.Wrote.{Wrote};

@@ -1,4 +1,6 @@
 // The lines of a piece of a log: where one ends, and what is held of one that the piece cuts.
+#![tactic(auto)]
+
 ghost use Rattle.std.specs.Prelude.{◌≡◌, ◌++◌, ◌∷◌, [], ◌+◌, ◌-◌, ◌≤◌, min, length, take};
 ghost use Rattle.forms.specs.Form.{line_bytes};
 ghost use Rattle.log_rules.specs.Pieces.{long_bytes};

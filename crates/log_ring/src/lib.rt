@@ -1,4 +1,6 @@
 // The lines of a ring's run: each is recognised where it begins, carried out on lent columns, and answered.
+#![tactic(auto)]
+
 ghost use Rattle.std.specs.Prelude.{◌≡◌, cond, ◌&&◌, ◌+◌, ◌≤◌, ◌<◌, length};
 ghost use Rattle.refusal.specs.Table.{is_accepted};
 ghost use Rattle.log_rules.specs.Answers.{answer_bytes, answer_text, ring_request, is_move};
@@ -25,7 +27,7 @@ use ring_token::{announce, pass, probe};
 
 // Where a run stands: the ring beside its columns, the accepted token moves, the lines answered, the index of the next line in the
 // piece, and of the next answer in the buffer.
-#[derive(Drop)]
+#[derive(Clone, Copy)]
 pub struct RingRun {
     pub rest: Rest,
     pub moves: u64,
@@ -35,7 +37,7 @@ pub struct RingRun {
 }
 
 // The same with the ring by value.
-#[derive(Drop)]
+#[derive(Clone, Copy)]
 pub struct RingFed {
     pub ring: Ring,
     pub moves: u64,

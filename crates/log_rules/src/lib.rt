@@ -1,4 +1,5 @@
 // The log program, the rules: definitions in specs/, their theorems in proofs/. This file names the limits of a log.
+#![tactic(auto)]
 
 // The most lines of a log: `line_limit` of specs/Lines.
 pub const LINE_LIMIT: u64 = 1000000;

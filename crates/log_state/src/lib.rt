@@ -1,4 +1,6 @@
 // A log as far as it is read, and the line that is held of it, answered once it is whole.
+#![tactic(auto)]
+
 ghost use Rattle.std.specs.Prelude.{◌≡◌, ◌+◌, ◌<◌};
 ghost use Rattle.ring.specs.View as ring_view;
 ghost use Rattle.tree.specs.View as tree_view;
@@ -22,7 +24,7 @@ use tree::Tree;
 
 // A log as far as it is read: what it has come to, the accepted token moves of a ring's run and those of each update of a table's, the
 // lines answered, and how many bytes are held of the next line in a buffer of LINE_BYTES (one more: it is too long).
-#[derive(Drop)]
+#[derive(Clone, Copy)]
 pub struct Log {
     pub stage: Stage,
     pub ring: Ring,
@@ -35,7 +37,7 @@ pub struct Log {
 }
 
 // The log after a piece, and how many bytes of answers are written.
-#[derive(Drop)]
+#[derive(Clone, Copy)]
 pub struct Fed {
     pub log: Log,
     pub count: usize,

@@ -1,4 +1,6 @@
 // The lines of a table's run: each is recognised where it begins, carried out on lent columns, and answered.
+#![tactic(auto)]
+
 ghost use Rattle.std.specs.Prelude.{◌≡◌, ◌+◌, ◌≤◌, ◌<◌, ◌^◌, length, get_or, set};
 ghost use Rattle.first_line.specs.Meaning.{Flags};
 ghost use Rattle.log_rules.specs.Answers.{add_at, answer_bytes, answer_text, ring_request, update_step_told, update_start_told};
@@ -24,7 +26,7 @@ use table_start::{fixed_of, is_other};
 use update_forms::{UpdateLine, update_start, update_step};
 
 // Where a run stands: the lines answered, the index of the next line in the piece, and of the next answer in the buffer.
-#[derive(Drop)]
+#[derive(Clone, Copy)]
 pub struct TableRun {
     pub lines: u64,
     pub next: usize,
@@ -32,7 +34,7 @@ pub struct TableRun {
 }
 
 // The same with the table by value, and the accepted token moves of each update.
-#[derive(Drop)]
+#[derive(Clone, Copy)]
 pub struct TableFed {
     pub table: Table,
     pub moves: [u64; UPDATES],
@@ -42,7 +44,7 @@ pub struct TableFed {
 }
 
 // A step by its kind number.
-#[derive(Drop)]
+#[derive(Clone, Copy)]
 pub struct Request {
     pub kind: u8,
     pub i: usize,

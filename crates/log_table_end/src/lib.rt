@@ -1,4 +1,6 @@
 // The end lines of a table's run, written into a lent buffer.
+#![tactic(auto)]
+
 ghost use Rattle.std.specs.Prelude.{◌+◌, ◌≤◌, length};
 ghost use Rattle.log_rules.specs.Answers.{table_end, update_end};
 ghost use Rattle.log_text.specs.Wrote.{Wrote};

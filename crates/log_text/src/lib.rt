@@ -1,4 +1,6 @@
 // The answers of the log program, written into a lent buffer from fixed byte strings.
+#![tactic(auto)]
+
 ghost use Rattle.std.specs.Prelude.{◌+◌, ◌≤◌, length};
 ghost use Rattle.log_rules.specs.Answers.{answer_text};
 ghost use Rattle.log_text.specs.Wrote.{Wrote, item};

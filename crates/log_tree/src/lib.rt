@@ -1,4 +1,6 @@
 // The lines of a tree's run: each is recognised where it begins, carried out on lent columns, and answered.
+#![tactic(auto)]
+
 ghost use Rattle.std.specs.Prelude.{◌≡◌, ◌+◌, ◌≤◌, ◌<◌, length};
 ghost use Rattle.log_rules.specs.Answers.{answer_bytes, answer_text, tree_request};
 ghost use Rattle.tree_check.specs.Whole.{whole};
@@ -19,7 +21,7 @@ use tree_forms::tree_step;
 
 // Where a run stands: the tree beside its columns, the lines answered, the index of the next line in the piece, and of the next answer
 // in the buffer.
-#[derive(Drop)]
+#[derive(Clone, Copy)]
 pub struct TreeRun {
     pub rest: Rest,
     pub lines: u64,
@@ -28,7 +30,7 @@ pub struct TreeRun {
 }
 
 // The same with the tree by value.
-#[derive(Drop)]
+#[derive(Clone, Copy)]
 pub struct TreeFed {
     pub tree: Tree,
     pub lines: u64,
@@ -37,7 +39,7 @@ pub struct TreeFed {
 }
 
 // A step by its kind number.
-#[derive(Drop)]
+#[derive(Clone, Copy)]
 pub struct Request {
     pub kind: u8,
     pub i: usize,

@@ -1,5 +1,7 @@
 // The packing station by value: entering, starts, the six steps with close in the place of announce, the soundness check, and what is read.
 // Every panel and request has an answer.
+#![tactic(auto)]
+
 ghost use Rattle.std.specs.Prelude.{◌≡◌};
 ghost use Rattle.panel_rules.specs.State.{marks_number, record_number};
 ghost use Rattle.panel_rules.specs.Soundness.{Sound, sound_test};
@@ -11,7 +13,7 @@ use panel_rules::Record;
 use refusal::{Count, RING_NODES, Refusal, Verdict};
 use ring::{Ring, gathered, rest_of};
 
-#[derive(Drop)]
+#[derive(Clone, Copy)]
 pub struct Panel {
     pub ring: Ring,
     pub firmware: [bool; RING_NODES],
@@ -20,7 +22,7 @@ pub struct Panel {
 }
 
 // A verdict, and the next panel; where it is refused, the very panel handed in.
-#[derive(Drop)]
+#[derive(Clone, Copy)]
 pub struct PanelStepped {
     pub verdict: Verdict,
     pub panel: Panel,

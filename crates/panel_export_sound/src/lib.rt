@@ -1,4 +1,6 @@
 // What other languages call to ask whether a panel is sound: its fields are lent one by one. Bytes and numbers alone cross.
+#![tactic(auto)]
+
 ghost use Rattle.std.specs.Prelude.{◌≡◌};
 ghost use Rattle.lent_panel.specs.Panel.{lent_panel, panel_sound_number};
 

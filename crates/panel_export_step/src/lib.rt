@@ -1,4 +1,6 @@
 // What other languages call to make a step of a panel: its fields are lent one by one. Bytes and numbers alone cross.
+#![tactic(auto)]
+
 ghost use Rattle.lent_panel.specs.Panel.{lent_panel, AskedTo};
 ghost use Rattle.panel_rules.specs.Asks.{step_ask};
 

@@ -1,5 +1,7 @@
 // The fields of a panel as other languages lend them: whether the bytes of truths are 0 or 1 and the record at most 2, the panel that lies in them,
 // and a panel put into them.
+#![tactic(auto)]
+
 ghost use Rattle.std.specs.Prelude.{◌≡◌, ◌&&◌};
 ghost use Rattle.flag_bytes.specs.Flags.{are_flags, is_flag};
 ghost use Rattle.lent_panel.specs.Panel.{is_record, lent_panel, lent_panel_of, panel_in, record_of};

@@ -1,4 +1,6 @@
 // A panel's marks over lent columns: what soundness asks of them and of the record, whether they all say one word, and what a job word makes of them.
+#![tactic(auto)]
+
 ghost use Rattle.std.specs.Prelude.{◌≡◌, ◌≤◌, length};
 ghost use Rattle.panel_rules.specs.State.{says, all_say_word};
 ghost use Rattle.panel_rules.specs.Rules.{firmware_said, map_said, is_word};

@@ -1,5 +1,7 @@
 // A step at the packing station over lent columns, of a panel that is known to be sound: the ring's own steps, the marks that a take sets, and the
 // record that a close writes.
+#![tactic(auto)]
+
 ghost use Rattle.std.specs.Prelude.{false, ◌≡◌};
 ghost use Rattle.ring_rules.specs.Rules.{Take, Announce, kind_of};
 ghost use Rattle.panel_rules.specs.Soundness.{Sound};
@@ -11,7 +13,7 @@ use refusal::{COLOR_BYTES, RING_NODES, Refusal, Verdict};
 use ring_check::{Rest, Told};
 
 // What a step at the station tells: a verdict, what of the ring is not a column, and the record.
-#[derive(Drop)]
+#[derive(Clone, Copy)]
 pub struct PanelTold {
     pub verdict: Verdict,
     pub rest: Rest,

@@ -1,10 +1,12 @@
 // Document 01, "Runs to check", by calls: a sound state with 999,999 accepted sends. One more is accepted, the next is 9, and takes
 // still pass. Each line is the number of an answer, 0 where the step is accepted; then the total in transit and the black nodes, each with the
 // number of its answer before it, 3 of an unsound ring; and what a driver tells.
-use libc::STDOUT_FILENO;
+#![tactic(auto)]
+
 use refusal::{COLOR_BYTES, Count, RING_NODES, SEND_LIMIT};
 use ring::{Ring, Stepped};
 use ring_rules::MOVE_LIMIT;
+use std::io;
 
 // Two nodes: node 0 is active and sent 999,999 messages, all of them in transit to node 1; the token is black.
 fn busy() -> Ring {
@@ -28,22 +30,23 @@ fn busy() -> Ring {
     }
 }
 
-fn line(n: u64) {
-    io::print_decimal(STDOUT_FILENO, n);
-    io::write_all(STDOUT_FILENO, b"\n");
+fn line(rt: &HostRuntime, n: u64) -> io::Result<()> {
+    println!(rt; "{n}")?;
+    Ok(())
 }
 
-fn told(s: Stepped) -> Ring {
+fn told(rt: &HostRuntime, s: Stepped) -> io::Result<Ring> {
     let verdict = s.verdict;
-    line(refusal::code(verdict) as u64);
+    line(rt, refusal::code(verdict) as u64)?;
     let ring = s.ring;
-    ring
+    Ok(ring)
 }
 
-fn counted(c: Count) {
+fn counted(rt: &HostRuntime, c: Count) -> io::Result<()> {
     let verdict = c.verdict;
-    line(refusal::code(verdict) as u64);
-    line(c.number);
+    line(rt, refusal::code(verdict) as u64)?;
+    line(rt, c.number)?;
+    Ok(())
 }
 
 // The ring with more messages received than were sent: it is not sound.
@@ -53,17 +56,18 @@ fn spoiled(ring: Ring) -> Ring {
     next
 }
 
-fn main() {
-    let first = told(busy().send(0, 1));
-    let second = told(first.send(0, 1));
-    let third = told(second.take(1, 1));
-    let fourth = told(third.send(1, 0));
-    let last = told(fourth.take(1, 1));
-    counted(last.in_transit());
-    counted(last.black_nodes());
-    counted(spoiled(last).in_transit());
-    counted(spoiled(last).black_nodes());
+fn main(rt: HostRuntime) -> io::Result<()> {
+    let first = told(&rt, busy().send(0, 1))?;
+    let second = told(&rt, first.send(0, 1))?;
+    let third = told(&rt, second.take(1, 1))?;
+    let fourth = told(&rt, third.send(1, 0))?;
+    let last = told(&rt, fourth.take(1, 1))?;
+    counted(&rt, last.in_transit())?;
+    counted(&rt, last.black_nodes())?;
+    counted(&rt, spoiled(last).in_transit())?;
+    counted(&rt, spoiled(last).black_nodes())?;
     let driven = last.drive(MOVE_LIMIT + 1);
     let reason = driven.reason;
-    line(ring_rules::reason_number(reason) as u64);
+    line(&rt, ring_rules::reason_number(reason) as u64)?;
+    Ok(())
 }

@@ -1,4 +1,6 @@
 // What other languages call to drive a ring's token: its fields are lent one by one. Bytes and numbers alone cross.
+#![tactic(auto)]
+
 ghost use Rattle.std.specs.Prelude.{◌≡◌};
 ghost use Rattle.lent.specs.Ring.{lent, DrivenTo};
 ghost use Rattle.ring_rules.specs.Driver.{reason_verdict};

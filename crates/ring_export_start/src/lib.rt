@@ -1,4 +1,6 @@
 // What other languages call to start a ring: its fields are lent one by one. Bytes and numbers alone cross.
+#![tactic(auto)]
+
 ghost use Rattle.lent.specs.Ring.{lent, StartedTo};
 
 use refusal::{COLOR_BYTES, RING_NODES, Verdict};

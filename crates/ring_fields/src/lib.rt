@@ -1,4 +1,6 @@
 // The fields of a ring as other languages lend them: whether the bytes of truths are 0 or 1, the ring that lies in them, and a ring put into them.
+#![tactic(auto)]
+
 ghost use Rattle.std.specs.Prelude.{◌≡◌, ◌&&◌};
 ghost use Rattle.flag_bytes.specs.Flags.{are_flags, is_flag};
 ghost use Rattle.lent.specs.Ring.{lent, lent_of, state_of};

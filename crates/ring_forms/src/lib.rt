@@ -1,4 +1,6 @@
 // The steps of a ring's log, each recognised where its line begins.
+#![tactic(auto)]
+
 ghost use Rattle.std.specs.Prelude.{◌≡◌};
 ghost use Rattle.forms.specs.Exact.{RingRead};
 ghost use Rattle.forms.specs.Read.{made_of, read_by, ring_take, ring_kind, ring_shapes, ring_line_of, ring_at};

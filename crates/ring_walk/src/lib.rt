@@ -1,4 +1,6 @@
 // The walk of the soundness check, down the ring from node n - 1 to node 0, as the token goes, and the tests of what it has seen.
+#![tactic(auto)]
+
 ghost use Rattle.std.specs.Prelude.{◌≡◌, ◌≤◌, ◌<◌, ◌^◌};
 ghost use Rattle.std.specs.Int.Signed.{mag};
 ghost use Rattle.ring_walk.specs.Walked.{Bounded, Walked};
@@ -10,7 +12,7 @@ use refusal::{COLOR_BYTES, RING_NODES};
 pub const SEND_LIMIT: u64 = refusal::SEND_LIMIT as u64;
 
 // The nodes above the token: what they sent and received, and whether they are passive.
-#[derive(Drop)]
+#[derive(Clone, Copy)]
 pub struct Above {
     pub sent: u64,
     pub received: u64,
@@ -18,7 +20,7 @@ pub struct Above {
 }
 
 // What the walk has seen: the totals of all nodes, those above the token, and whether the others are white.
-#[derive(Drop)]
+#[derive(Clone, Copy)]
 pub struct Seen {
     pub sent: u64,
     pub received: u64,

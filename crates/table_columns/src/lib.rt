@@ -1,4 +1,6 @@
 // A table by value stored in lent columns, and gathered from them again.
+#![tactic(auto)]
+
 ghost use Rattle.std.specs.Prelude.{◌≡◌, ◌<◌};
 ghost use Rattle.ring.specs.View.{state};
 ghost use Rattle.table_steps.specs.Memory.{memory, state_at, Eight};

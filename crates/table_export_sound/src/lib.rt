@@ -1,5 +1,7 @@
 // What other languages call to ask whether a table is sound: its fields are lent one by one, a column of eight places each. Bytes and numbers
 // alone cross.
+#![tactic(auto)]
+
 ghost use Rattle.std.specs.Prelude.{◌≡◌};
 ghost use Rattle.lent.specs.Table.{lent_table, table_sound_number};
 

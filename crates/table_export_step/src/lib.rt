@@ -1,5 +1,7 @@
 // What other languages call to make a step of an update: its fields are lent one by one, a column of eight places each. Bytes and numbers
 // alone cross.
+#![tactic(auto)]
+
 ghost use Rattle.lent.specs.Table.{lent_table, AnsweredTo};
 ghost use Rattle.table_rules.specs.Answers.{step_ask};
 

@@ -1,5 +1,7 @@
 // The fields of a table as other languages lend them, a column of eight places each: whether the bytes of truths of started updates are 0 or 1, the rings
 // that lie in them, and a ring put into them.
+#![tactic(auto)]
+
 ghost use Rattle.std.specs.Prelude.{◌≡◌, ◌&&◌, ◌||◌, ◌<◌, eqb, get_or, []};
 ghost use Rattle.laws.specs.Places.{all_to};
 ghost use Rattle.flag_bytes.specs.Flags.{are_flags, is_flag};

@@ -1,4 +1,6 @@
 // The tree of Dijkstra and Scholten by value: start, soundness check, the six steps. Every state and request has an answer.
+#![tactic(auto)]
+
 ghost use Rattle.std.specs.Prelude.{◌≡◌, ◌<◌};
 ghost use Rattle.tree_rules.specs.Rules.{Send, Take, Idle, Ack, Leave, Announce};
 ghost use Rattle.tree_rules.specs.Soundness.{sound_test};
@@ -11,7 +13,7 @@ use refusal::{Count, Refusal, TREE_NODES, TREE_PAIRS, Verdict};
 use tree_check::Rest;
 use tree_rules::NO_ENGAGER;
 
-#[derive(Drop)]
+#[derive(Clone, Copy)]
 pub struct Tree {
     pub n: usize,
     pub root: usize,
@@ -25,7 +27,7 @@ pub struct Tree {
 }
 
 // A verdict, and the next state; where it is refused, the very state handed in.
-#[derive(Drop)]
+#[derive(Clone, Copy)]
 pub struct Stepped {
     pub verdict: Verdict,
     pub tree: Tree,

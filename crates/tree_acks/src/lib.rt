@@ -1,4 +1,6 @@
 // The steps of acknowledgements over lent columns, of an open state: ack, leave and announce.
+#![tactic(auto)]
+
 ghost use Rattle.std.specs.Prelude.{◌≡◌};
 ghost use Rattle.tree_rules.specs.Rules.{Ack, Leave, Announce};
 ghost use Rattle.tree_rules.specs.Soundness.{Open};

@@ -1,8 +1,10 @@
 // Document 01, "Runs to check", by calls: a sound state with 999,999 accepted sends. One more is accepted, the next is 9, and takes
 // still pass. Each line is the number of an answer, 0 where the step is accepted; then the acknowledgements in
 // transit before and after one is acknowledged, each with the number of its answer before it, 3 of an unsound tree.
-use libc::STDOUT_FILENO;
+#![tactic(auto)]
+
 use refusal::{Count, SEND_LIMIT, TREE_NODES, TREE_PAIRS};
+use std::io;
 use tree::{Stepped, Tree};
 use tree_rules::NO_ENGAGER;
 
@@ -29,22 +31,23 @@ fn busy() -> Tree {
     }
 }
 
-fn line(n: u64) {
-    io::print_decimal(STDOUT_FILENO, n);
-    io::write_all(STDOUT_FILENO, b"\n");
+fn line(rt: &HostRuntime, n: u64) -> io::Result<()> {
+    println!(rt; "{n}")?;
+    Ok(())
 }
 
-fn told(s: Stepped) -> Tree {
+fn told(rt: &HostRuntime, s: Stepped) -> io::Result<Tree> {
     let verdict = s.verdict;
-    line(refusal::code(verdict) as u64);
+    line(rt, refusal::code(verdict) as u64)?;
     let tree = s.tree;
-    tree
+    Ok(tree)
 }
 
-fn counted(c: Count) {
+fn counted(rt: &HostRuntime, c: Count) -> io::Result<()> {
     let verdict = c.verdict;
-    line(refusal::code(verdict) as u64);
-    line(c.number);
+    line(rt, refusal::code(verdict) as u64)?;
+    line(rt, c.number)?;
+    Ok(())
 }
 
 // The tree with one acknowledgement more than is owed: it is not sound.
@@ -54,14 +57,15 @@ fn spoiled(tree: Tree) -> Tree {
     next
 }
 
-fn main() {
-    let first = told(busy().send(0, 1));
-    let second = told(first.send(0, 1));
-    let third = told(second.take(1, 0));
-    let fourth = told(third.send(1, 0));
-    let fifth = told(fourth.take(1, 0));
-    let last = told(fifth.ack(0));
-    counted(fifth.acks_in_transit());
-    counted(last.acks_in_transit());
-    counted(spoiled(last).acks_in_transit());
+fn main(rt: HostRuntime) -> io::Result<()> {
+    let first = told(&rt, busy().send(0, 1))?;
+    let second = told(&rt, first.send(0, 1))?;
+    let third = told(&rt, second.take(1, 0))?;
+    let fourth = told(&rt, third.send(1, 0))?;
+    let fifth = told(&rt, fourth.take(1, 0))?;
+    let last = told(&rt, fifth.ack(0))?;
+    counted(&rt, fifth.acks_in_transit())?;
+    counted(&rt, last.acks_in_transit())?;
+    counted(&rt, spoiled(last).acks_in_transit())?;
+    Ok(())
 }

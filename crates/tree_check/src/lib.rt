@@ -1,4 +1,6 @@
 // The soundness check of a tree state over lent columns: what is large is lent, the rest goes by value.
+#![tactic(auto)]
+
 ghost use Rattle.std.specs.Prelude.{◌≡◌, cond, ◌*◌, ◌≤◌, ◌<◌, ◌^◌, length, get_or};
 ghost use Rattle.laws.specs.Places.{all_to};
 ghost use Rattle.laws.specs.Sums.{sum_to};
@@ -11,7 +13,7 @@ use refusal::{Refusal, SEND_LIMIT, TREE_NODES, TREE_PAIRS, Verdict};
 use tree_rules::NO_NODE;
 
 // What of a tree is not a column.
-#[derive(Drop)]
+#[derive(Clone, Copy)]
 pub struct Rest {
     pub n: usize,
     pub root: usize,
@@ -20,7 +22,7 @@ pub struct Rest {
 }
 
 // A verdict, and the rest of the state beside the columns.
-#[derive(Drop)]
+#[derive(Clone, Copy)]
 pub struct Told {
     pub verdict: Verdict,
     pub rest: Rest,

@@ -1,4 +1,6 @@
 // What other languages call to read a tree's text: what it tells is lent field by field. Bytes and numbers alone cross.
+#![tactic(auto)]
+
 ghost use Rattle.lent.specs.Tree.{ReadAs};
 
 use refusal::{TREE_NODES, Verdict};

@@ -1,4 +1,6 @@
 // What other languages call to start a tree: its fields are lent one by one. Bytes and numbers alone cross.
+#![tactic(auto)]
+
 ghost use Rattle.lent.specs.Tree.{lent_tree, TreeStartedTo};
 
 use refusal::{TREE_NODES, TREE_PAIRS, Verdict};

@@ -1,4 +1,6 @@
 // What other languages call to write a tree's text: its fields are lent one by one. Bytes and numbers alone cross.
+#![tactic(auto)]
+
 ghost use Rattle.lent.specs.Tree.{lent_tree, WrittenAs};
 
 use refusal::{Refusal, TREE_NODES, TREE_PAIRS};

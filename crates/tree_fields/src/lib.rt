@@ -1,4 +1,6 @@
 // The fields of a tree as other languages lend them: whether the bytes of truths are 0 or 1, the tree that lies in them, and a tree put into them.
+#![tactic(auto)]
+
 ghost use Rattle.std.specs.Prelude.{◌≡◌, ◌&&◌};
 ghost use Rattle.flag_bytes.specs.Flags.{are_flags, is_flag};
 ghost use Rattle.lent.specs.Tree.{lent_tree, lent_tree_of, tree_of};

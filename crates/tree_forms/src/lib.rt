@@ -1,4 +1,6 @@
 // The steps of a tree's log, each recognised where its line begins.
+#![tactic(auto)]
+
 ghost use Rattle.std.specs.Prelude.{◌≡◌};
 ghost use Rattle.forms.specs.Exact.{TreeRead};
 ghost use Rattle.forms.specs.Read.{made_of, read_by, tree_kind, tree_shapes, tree_line_of, tree_at};

@@ -1,4 +1,6 @@
 // The steps of messages over lent columns, of an open state: send, take and idle.
+#![tactic(auto)]
+
 ghost use Rattle.std.specs.Prelude.{◌≡◌};
 ghost use Rattle.tree_rules.specs.Rules.{Send, Take, Idle};
 ghost use Rattle.tree_rules.specs.Soundness.{Open};

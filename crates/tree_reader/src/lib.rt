@@ -1,4 +1,6 @@
 // The reader of the text of the engagement tree: the first fault from the left decides.
+#![tactic(auto)]
+
 ghost use Rattle.std.specs.Prelude.{◌≡◌, cond, ◌+◌, ◌≤◌, ◌<◌, eqb};
 ghost use Rattle.tree_text.specs.Read.{refused, stepped, placed, entered, closed, list_of, node_of, nothing, end_of, read_of};
 

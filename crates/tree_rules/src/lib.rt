@@ -1,4 +1,5 @@
 // The tree of Dijkstra and Scholten, the rules: definitions in specs/, their theorems in proofs/. This file names what stands where there is no node.
+#![tactic(auto)]
 
 // The number that is no node's.
 pub const NO_NODE: usize = refusal::TREE_NODES;

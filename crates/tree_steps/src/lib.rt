@@ -1,4 +1,6 @@
 // A step by its kind number over lent columns, of a state that is known to be sound.
+#![tactic(auto)]
+
 ghost use Rattle.std.specs.Prelude.{◌≡◌};
 ghost use Rattle.tree_rules.specs.Rules.{kind_of};
 ghost use Rattle.tree_rules.specs.Soundness.{Sound};

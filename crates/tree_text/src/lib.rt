@@ -1,18 +1,20 @@
 // The text of the engagement tree: definitions in specs/, their theorems in proofs/. This file declares what the writer and the reader answer.
+#![tactic(auto)]
+
 ghost use Rattle.std.specs.Prelude.{◌≡◌};
 ghost use Rattle.tree_text.specs.Write.{written_number};
 
 use refusal::{Refusal, TREE_NODES, Verdict};
 
 // The length of the text that was written, or why none was.
-#[derive(Drop)]
+#[derive(Clone, Copy)]
 pub enum Written {
     Length(usize),
     NotWritten(Refusal),
 }
 
 // A reading under way: the engagers so far, the index of the next byte, the node entered or closed last.
-#[derive(Drop)]
+#[derive(Clone, Copy)]
 pub struct Reading {
     pub verdict: Verdict,
     pub engager: [u8; TREE_NODES],
@@ -21,7 +23,7 @@ pub struct Reading {
 }
 
 // What was read; where it is refused, no engagers and no root, each 16.
-#[derive(Drop)]
+#[derive(Clone, Copy)]
 pub struct Found {
     pub verdict: Verdict,
     pub engager: [u8; TREE_NODES],

@@ -1,4 +1,6 @@
 // The writer of the text of the engagement tree.
+#![tactic(auto)]
+
 ghost use Rattle.std.specs.Prelude.{◌≡◌, ◌+◌, ◌≤◌, ◌<◌, length};
 ghost use Rattle.decimal.specs.Text.{put};
 ghost use Rattle.tree.specs.View.{state};

@@ -1,4 +1,6 @@
 // The wrapped lines of a log: a step or a start of the ring, inside the number of its update.
+#![tactic(auto)]
+
 ghost use Rattle.std.specs.Prelude.{◌≡◌};
 ghost use Rattle.first_line.specs.declared.FirstKind.TheVariants.{Ring};
 ghost use Rattle.forms.specs.Read.{read_by, ring_shapes, ring_line_of};
@@ -12,14 +14,14 @@ use refusal::RING_NODES;
 use ring_forms::ring_line;
 
 // What a wrapped line says: a step of an update, and the index past the line's byte 10.
-#[derive(Drop)]
+#[derive(Clone, Copy)]
 pub enum UpdateLine {
     Step(usize, RingStep, usize),
     NotAForm,
 }
 
 // What a wrapped start says: its update, and its ring as of a first line that ends where the wrapped line does.
-#[derive(Drop)]
+#[derive(Clone, Copy)]
 pub struct UpdateFirst {
     pub update: usize,
     pub first: First,

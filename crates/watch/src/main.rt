@@ -1,4 +1,6 @@
 // Reads a log from standard input in pieces of 64 KiB and writes the answers to standard output, one write for each piece.
+#![tactic(auto)]
+
 ghost use Rattle.std.specs.Prelude.{◌≡◌, ◌+◌, ◌*◌, ◌≤◌, length};
 ghost use Rattle.forms.specs.Form.{line_bytes};
 ghost use Rattle.log_rules.specs.Answers.{answer_bytes};
@@ -11,7 +13,7 @@ use log_rules::ANSWER_BYTES;
 use log_state::Log;
 
 // The log after a piece, how many bytes of answers go to write, whether to go on, and whether a read or a write failed.
-#[derive(Drop)]
+#[derive(Clone, Copy)]
 pub struct Step {
     pub log: Log,
     pub count: usize,
@@ -25,7 +27,7 @@ fn answer(log: Log, piece: &[u8], got: isize, line: &mut [u8], out: &mut [u8]) -
     ensures { PieceAnswered log piece.now got result line.old line.new out.old out.new }
 {
     let n = io::count(got, piece);
-    let f = log::feed(log, &piece[..n], line, out);
+    let f = log_feed::feed(log, &piece[..n], line, out);
     let next = f.log;
     let decided = log_state::is_decided(next);
     Step {
@@ -94,7 +96,7 @@ fn run(piece: &mut [u8], line: &mut [u8], out: &mut [u8]) -> Step
     requires { (length line.old ≡ line_bytes) × ((length piece.old + line_bytes) * answer_bytes ≤ length out.old) }
     ensures { ProgramRan result out.new }
 {
-    let s = pump(log::start(), piece, line, out);
+    let s = pump(log_feed::start(), piece, line, out);
     let log = s.log;
     if s.failed {
         return Step {

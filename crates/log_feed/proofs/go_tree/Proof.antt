@@ -1,8 +1,8 @@
 use borrow.Author.Rules.{rules}
 use native.Mathlib.Omega.{arith}
 use Rattle.log_state.proofs.Feeds.{fed_went}
-use Rattle.log.proofs.go_tree.Statement.{statement}
-use Rattle.log.proofs.go_tree.Tie as tie
+use Rattle.log_feed.proofs.go_tree.Statement.{statement}
+use Rattle.log_feed.proofs.go_tree.Tie as tie
 
 tree-piece-requires : tie.Need-tree-piece-requires
 tree-piece-requires c κs = search rules

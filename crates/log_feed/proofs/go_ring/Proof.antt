@@ -1,8 +1,8 @@
 use borrow.Author.Rules.{rules}
 use native.Mathlib.Omega.{arith}
 use Rattle.log_state.proofs.Feeds.{fed_went}
-use Rattle.log.proofs.go_ring.Statement.{statement}
-use Rattle.log.proofs.go_ring.Tie as tie
+use Rattle.log_feed.proofs.go_ring.Statement.{statement}
+use Rattle.log_feed.proofs.go_ring.Tie as tie
 
 ring-piece-requires : tie.Need-ring-piece-requires
 ring-piece-requires c κs = search rules

@@ -3,9 +3,9 @@ use mathlib.Core.Path.{ap, subst}
 use native.Mathlib.Omega.{arith}
 use Rattle.log_beginning.specs.Open.{Begun, SoundStage, stage_by}
 use Rattle.log_state.proofs.Feeds.{over_fed}
-use Rattle.log.proofs.go_on.Statement.{statement}
+use Rattle.log_feed.proofs.go_on.Statement.{statement}
 use Rattle.log_beginning.specs.declared.Stage as code
-use Rattle.log.proofs.go_on.Tie as tie
+use Rattle.log_feed.proofs.go_on.Tie as tie
 
 enum_told : tie.Need-enum-told
 enum_told c = search rules

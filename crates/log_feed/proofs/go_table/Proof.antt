@@ -1,8 +1,8 @@
 use borrow.Author.Rules.{rules}
 use native.Mathlib.Omega.{arith}
 use Rattle.log_state.proofs.Feeds.{fed_went}
-use Rattle.log.proofs.go_table.Statement.{statement}
-use Rattle.log.proofs.go_table.Tie as tie
+use Rattle.log_feed.proofs.go_table.Statement.{statement}
+use Rattle.log_feed.proofs.go_table.Tie as tie
 
 table-piece-requires : tie.Need-table-piece-requires
 table-piece-requires c κs = search rules

@@ -1,8 +1,8 @@
 use borrow.Author.Rules.{rules}
 use native.Mathlib.Omega.{arith}
 use Rattle.log_state.proofs.Feeds.{full_rest, held_rest}
-use Rattle.log.proofs.hold_rest.Statement.{statement}
-use Rattle.log.proofs.hold_rest.Tie as tie
+use Rattle.log_feed.proofs.hold_rest.Statement.{statement}
+use Rattle.log_feed.proofs.hold_rest.Tie as tie
 
 returns : tie.Need-returns
 returns c = full_rest _ _ _ _ c.if1.true

@@ -1,4 +1,6 @@
 // The log program over pieces of a log: nothing here reads or writes, a program does that around `feed` and `finish`.
+#![tactic(auto)]
+
 ghost use Rattle.std.specs.Prelude.{◌≡◌, [], ◌+◌, ◌*◌, ◌≤◌, length, drop};
 ghost use Rattle.ring.specs.View as ring_view;
 ghost use Rattle.tree.specs.View as tree_view;

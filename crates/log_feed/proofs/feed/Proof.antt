@@ -3,8 +3,8 @@ use mathlib.Core.Path.{◌∙◌, sym}
 use native.Mathlib.Omega.{arith}
 use Rattle.log_lines.proofs.Ends.{found_line, found_none}
 use Rattle.log_state.proofs.Feeds.{full_fed, part_fed, whole_fed}
-use Rattle.log.proofs.feed.Statement.{statement}
-use Rattle.log.proofs.feed.Tie as tie
+use Rattle.log_feed.proofs.feed.Statement.{statement}
+use Rattle.log_feed.proofs.feed.Tie as tie
 
 returns : tie.Need-returns
 returns c = full_fed c.before.before.before.before.before.args.log _ _ _ c.if1.true c.before.before.before.before.before.requires.0
