@@ -1,0 +1,7 @@
+use Rattle.color.specs.Colors.{blackened}
+use borrow.Author.Rules.{rules}
+use Rattle.color.proofs.blacken.Goals as goal
+
+pub returns : goal.returns
+unfolding blackened
+returns c = rw c.power.ensures

@@ -1,0 +1,7 @@
+use Rattle.color.specs.Colors.{whitened}
+use borrow.Author.Rules.{rules}
+use Rattle.color.proofs.whiten.Goals as goal
+
+pub returns : goal.returns
+unfolding whitened
+returns c = rw c.power.ensures
