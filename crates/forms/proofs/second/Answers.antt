@@ -1,0 +1,11 @@
+use Rattle.forms.specs.Read.{second_of}
+use borrow.Author.Rules.{rules}
+use Rattle.forms.proofs.second.Goals as goal
+
+pub returns-in-Value : goal.returns-in-Value
+unfolding second_of
+returns-in-Value c = rw (← c.spaced-m.ensures, c.in-Value.is) c.closed.ensures
+
+pub returns-in-Wrong : goal.returns-in-Wrong
+unfolding second_of
+returns-in-Wrong c = rw (← c.spaced-m.ensures, c.in-Wrong.is)
