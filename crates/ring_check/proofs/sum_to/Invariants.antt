@@ -1,0 +1,13 @@
+use Prim.Native.Nat.{◌*◌, ◌+◌, ◌-◌, ◌^◌, ◌≤◌}
+use borrow.Author.Rules.{rules}
+use mathlib.Core.Path.{◌∙◌, ◌≡◌, ap, ap₂, sym}
+use native.Mathlib.Omega.{arith}
+use Rattle.laws.proofs.Sums.{sum_none, total_next}
+use Rattle.laws.specs.Sums.{total}
+use Rattle.ring_check.proofs.sum_to.Given as goal
+
+abbrev pub invariant-loop-i : goal.invariant-loop-i
+invariant-loop-i l = (l.i ≤ l.n) × (l.sum ≡ total l.a l.i) × (l.sum ≤ l.i * 2 ^ 32)
+
+abbrev pub decreases-loop-i : goal.decreases-loop-i
+decreases-loop-i l = l.n - l.i

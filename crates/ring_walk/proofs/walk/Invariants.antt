@@ -1,0 +1,13 @@
+use Prim.Native.Nat.{◌+◌, ◌-◌}
+use borrow.Author.Rules.{rules}
+use mathlib.Core.Logic.{⊎_elim}
+use mathlib.Core.Path.{◌≡◌}
+use native.Mathlib.Omega.{arith}
+use Rattle.ring_walk.proofs.Laws.{Behind, Going, Higher, behind_node, going_all, going_none, higher_kept, higher_node, lower_kept, lower_node}
+use Rattle.ring_walk.proofs.walk.Given as goal
+
+abbrev pub invariant-loop-i : goal.invariant-loop-i
+invariant-loop-i l = Going l.n l.pos l.active l.color l.sent l.received l.pending l.s l.t l.p l.s_above l.t_above l.passive l.white l.i
+
+abbrev pub decreases-loop-i : goal.decreases-loop-i
+decreases-loop-i l = l.i
