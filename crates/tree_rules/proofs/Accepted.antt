@@ -99,6 +99,7 @@ rule_guard t Idle i j (idles hi act) = act
 rule_guard t Ack i j (acknowledges hi a) = lt-ltb _ _ a
 rule_guard t Leave i j (leaves hi l) = true_leave t i l
 rule_guard t Announce i j (announces c) = true-conclusive t c
+rule_guard t Unknown i j x' = elim x' [ ]
 
 -- the rows that the rule itself answers
 record Passed (t : State) (k : Kind) (i j : ℕ) : Type 0 where
@@ -114,6 +115,7 @@ passed t Idle i j (idles hi act) = record { known = refl; inside = lt-leb _ _ hi
 passed t Ack i j (acknowledges hi a) = record { known = refl; inside = lt-leb _ _ hi; room = refl }
 passed t Leave i j (leaves hi l) = record { known = refl; inside = lt-leb _ _ hi; room = refl }
 passed t Announce i j (announces c) = record { known = refl; inside = refl; room = refl }
+passed t Unknown i j x' = elim x' [ ]
 
 pub accepted : (t : State) (k : Kind) (i j : ℕ) → Open t → Rule t i j k → verdict_of t k i j ≡ Accepted
 unfolding verdict_of

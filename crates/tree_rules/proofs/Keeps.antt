@@ -15,6 +15,7 @@ use Rattle.tree_rules.specs.Rules.{Ack, Announce, Idle, Kind, Leave, Send, Take,
 use Rattle.tree_rules.specs.Soundness.{Sound}
 use Rattle.refusal.specs.Table.{send_limit}
 use Rattle.tree_rules.specs.State.{State, acks_at, active_at, engager_at, unacked_at}
+use Rattle.tree_rules.specs.Rules.{Unknown}
 
 module _ (t : State) (f : Facts t) (running : t.closed ≡ false) where
   -- ---- rule 1
@@ -170,6 +171,7 @@ module _ (t : State) (f : Facts t) (running : t.closed ≡ false) where
   keeps_facts Ack i j (acknowledges hi a) = ack_keeps i hi a
   keeps_facts Leave i j (leaves hi l) = leave_keeps t f running i hi l
   keeps_facts Announce i j (announces c) = announce_keeps c
+  keeps_facts Unknown i j x' = elim x' [ ]
 
 -- an accepted step of an open state gives a sound state
 pub keeps : (t : State) → Sound t → t.closed ≡ false → (k : Kind) (i j : ℕ) → Rule t i j k → Sound (effect t k i j)

@@ -21,6 +21,7 @@ use Rattle.tree_rules.specs.Rules.{Ack, Announce, Idle, Kind, Leave, Send, Take,
 use Rattle.tree_rules.specs.Soundness.{Resting, Sound}
 use Rattle.tree_rules.specs.State.{State, acks_at, active_at, children, engager_at, is_child, messages_from, transit_at, unacked_at}
 use Rattle.tree_rules.specs.Termination.{Closing, Quiet, acknowledging, acks_total, engaged_others, is_other, leaving, steps_left}
+use Rattle.tree_rules.specs.Rules.{Unknown}
 
 -- ---- engaged nodes besides the root
 
@@ -195,6 +196,7 @@ module _ (t : State) (s : Sound t) (q : Quiet t) where
   quiet_only Ack i j (acknowledges hi a) = inl acknowledging
   quiet_only Leave i j (leaves hi l) = inl leaving
   quiet_only Announce i j (announces c) = inr refl
+  quiet_only Unknown i j x' = elim x' [ ]
 
   -- an acknowledgement or a leaving keeps it quiet and takes exactly one from what is left
   pub quiet_stays :
@@ -202,6 +204,11 @@ module _ (t : State) (s : Sound t) (q : Quiet t) where
       → Quiet (effect t k i j) × (steps_left (effect t k i j) + 1 ≡ steps_left t)
   quiet_stays o Ack i j c (acknowledges hi a) = (record { passive = q.passive; empty = q.empty }, ack_takes t (facts t s) i hi a)
   quiet_stays o Leave i j c (leaves hi l) = (record { passive = q.passive; empty = q.empty }, leave_takes t (facts t s) o i hi l)
+  quiet_stays o Send i j c _ = elim c [ ]
+  quiet_stays o Take i j c _ = elim c [ ]
+  quiet_stays o Idle i j c _ = elim c [ ]
+  quiet_stays o Announce i j c _ = elim c [ ]
+  quiet_stays o Unknown i j c _ = elim c [ ]
 
   -- while something is left, an acknowledgement or a leaving is allowed
   pub quiet_next : 0 < steps_left t → (k : Kind) × (i : ℕ) × Closing k × Rule t i 0 k
