@@ -1,6 +1,6 @@
 -- What turns come to, one after the other. Assumes nothing.
 use Prim.Native.Nat.{◌-◌, ◌<◌, ℕ}
-use Rattle.io.specs.Counts.{clamp_len}
+use Rattle.watch.specs.Turn.{clamp_len}
 use borrow.Author.Tests.{eqb-false, lt-ltb, not-false}
 use lib.IntN.{negsuc, pos, ℤ}
 use lib.ListN.{length}

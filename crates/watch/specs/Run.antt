@@ -1,13 +1,12 @@
 -- The whole program: one turn after the other, and then the end of the log.
 use Rattle.std.specs.Prelude.{◌-◌, ◌<◌, ◌≤◌, ℕ, eqb, negsuc, pos, ℤ, length, take, Bool, false, true, List, [], ◌++◌, ◌∷◌, ◌≡◌}
-use Rattle.io.specs.Counts.{clamp_len}
 use Rattle.log_finish.specs.Theorems.{Feeds}
 use Rattle.log_rules.specs.Answers.{fresh}
 use Rattle.log_rules.specs.Lines.{joined}
 use Rattle.log_rules.specs.Output.{output_of}
 use Rattle.log_state.specs.Feed.{Good, stage_of}
 use Rattle.log_state.specs.declared.Log.{Log}
-use Rattle.watch.specs.Turn.{Turned}
+use Rattle.watch.specs.Turn.{clamp_len, Turned}
 use Rattle.watch.specs.declared.Step.{Step}
 
 -- read, into a buffer that is not empty, answers 0 at the end of the input
