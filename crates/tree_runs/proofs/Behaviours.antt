@@ -27,6 +27,7 @@ use Rattle.tree_runs.specs.Agreement.{BelowLimit, Reachable, RunTo, initial, lat
 use Rattle.tree_runs.specs.Counts.{is_announce, kind, tree}
 use Rattle.tree_runs.specs.DijkstraScholten.{Addr, Initial, Step, Systems, deactivate, disengage, receive_ack, receive_dat, send_dat}
 use Rattle.tree_runs.specs.View.{Action, is_ack, is_announce_action, is_idle, is_leave, is_send_action, is_take, systems_of}
+use Rattle.tree_rules.specs.Rules.{Unknown}
 
 -- two addresses of one number
 same_addr : {N : ℕ} (k l : ℕ) → k ≡ l → (p : k < N) (q : l < N) → ◌≡◌ {A = Addr N} (record { nr = k; below = p }) (record { nr = l; below = q })
@@ -53,6 +54,7 @@ sends_effect t Idle i j w = omega arith
 sends_effect t Ack i j w = omega arith
 sends_effect t Leave i j w = omega arith
 sends_effect t Announce i j w = omega arith
+sends_effect t Unknown i j w = elim w [ ]
 
 -- ---- a run's states are reachable
 

@@ -15,6 +15,7 @@ use Rattle.tree_runs.proofs.Change.{addr_of, engaged_null, null_engaged, null_of
 use Rattle.tree_runs.specs.Agreement.{root_of}
 use Rattle.tree_runs.specs.DijkstraScholten.{Addr, Branch, Disengage, Engager, ReceiveDAT, SignalTermination, Systems, ◌BUT◌≔◌, acknowledged, addr, engaged_by, null}
 use Rattle.tree_runs.specs.View.{Action, engager_of, is_ack, is_announce_action, is_idle, is_leave, is_send_action, is_take, systems_of}
+use Rattle.tree_rules.specs.Rules.{Unknown}
 
 -- two states with the same variables
 pub same_systems :
@@ -148,6 +149,7 @@ module _ (t : State) (ok : Sound t) where
       })
   rule_action Leave i j (leaves hi l) = leave_action i j hi l
   rule_action Announce i j (announces c) = is_announce_action (signal_of c) refl
+  rule_action Unknown i j x' = elim x' [ ]
 
   pub of_signal : SignalTermination a0 s → Conclusion t
   of_signal d = record { passive = d.passive; settled = d.settled }

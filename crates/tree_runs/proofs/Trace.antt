@@ -46,6 +46,7 @@ module _ (t : State) (f : Facts t) where
   active_step Ack i j r b = refl
   active_step Leave i j r b = refl
   active_step Announce i j r b = refl
+  active_step Unknown i j r b = elim r [ ]
 
   -- ---- messages
 
@@ -68,6 +69,7 @@ module _ (t : State) (f : Facts t) where
   transit_step Ack i j r b c hc = refl
   transit_step Leave i j r b c hc = refl
   transit_step Announce i j r b c hc = refl
+  transit_step Unknown i j r b c hc = elim r [ ]
 
   -- ---- engagement
 
@@ -100,6 +102,7 @@ module _ (t : State) (f : Facts t) where
   engaged_step Ack i j r b = refl
   engaged_step Leave i j (leaves hi l) b = gone b i hi
   engaged_step Announce i j r b = refl
+  engaged_step Unknown i j r b = elim r [ ]
 
   -- ---- acknowledgements
 
@@ -120,6 +123,7 @@ module _ (t : State) (f : Facts t) where
       let e16 = engager_16 t f o i hi l in
       omega (arith, sum_raised 16 t.acks (engager_at t i) (in_acks t f (engager_at t i) e16) e16)
   acks_step o Announce i j r = refl
+  acks_step o Unknown i j r = elim r [ ]
 
 -- ---- sends
 

@@ -23,15 +23,29 @@ use Rattle.tree_runs.proofs.Trace.{closed_step}
 use Rattle.tree_runs.proofs.Traced.{Traced, acks_is, closed_none, may, quiet_here, quiet_there, sound_after, steps_is, traced, transit_is}
 use Rattle.tree_runs.specs.Counts.{AllClosing, Announced, QuietBy, Unannounced, announced_in, closing_first, is_announce, kind, no_request, tree}
 use Rattle.tree_runs.specs.WholeRun.{Counted, OneOfTwo, Point, WholeRuns, announcement, closing_steps, steps_by}
+use Rattle.tree_rules.specs.Rules.{Idle}
+use Rattle.tree_rules.specs.Rules.{Send}
+use Rattle.tree_rules.specs.Rules.{Take}
+use Rattle.tree_rules.specs.Rules.{Unknown}
 
 -- an acknowledgement or a leaving is no announcement
 closing_other {ℓ} : {A : Type ℓ} (k : Kind) → Closing k → k ≡ Announce → A
 closing_other Ack acknowledging e = absurd (false_true (ap is_announce e))
 closing_other Leave leaving e = absurd (false_true (ap is_announce e))
+closing_other {A = A} Send x'' e = elim x'' [ ]
+closing_other {A = A} Take x3 e = elim x3 [ ]
+closing_other {A = A} Idle x4 e = elim x4 [ ]
+closing_other {A = A} Announce x5 e = elim x5 [ ]
+closing_other {A = A} Unknown x6 e = elim x6 [ ]
 
 closing_quiet : (k : Kind) → Closing k → is_announce k ≡ false
 closing_quiet Ack acknowledging = refl
 closing_quiet Leave leaving = refl
+closing_quiet Send x' = elim x' [ ]
+closing_quiet Take x'' = elim x'' [ ]
+closing_quiet Idle x3 = elim x3 [ ]
+closing_quiet Announce x4 = elim x4 [ ]
+closing_quiet Unknown x5 = elim x5 [ ]
 
 -- an accepted announcement passed its test
 conclusion : (s : State) (k : Kind) (i j : ℕ) → k ≡ Announce → Rule s i j k → Conclusion s
@@ -63,6 +77,11 @@ module _ (s : State) (o : Open s) (q : Quiet s) where
       go : ((k : Kind) × (i : ℕ) × Closing k × Rule s i 0 k) → (x : Request) × Closing (kind x) × Accepts tree s x
       go (Ack, i, acknowledging, r) = (request 4 i, acknowledging, accepts_kind (request 4 i) Ack refl r)
       go (Leave, i, leaving, r) = (request 5 i, leaving, accepts_kind (request 5 i) Leave refl r)
+      go (Send , i , x , r) = elim x [ ]
+      go (Take , i , x , r) = elim x [ ]
+      go (Idle , i , x , r) = elim x [ ]
+      go (Announce , i , x , r) = elim x [ ]
+      go (Unknown , i , x , r) = elim x [ ]
 
   announced_last : steps_left s ≡ 0 → (x : Request) → kind x ≡ Announce → Accepts tree s x
   announced_last z x e = accepts_kind x Announce e (announces (quiet_last s o.sound q z))
