@@ -197,6 +197,8 @@ plain_verdict p s Idle idle i j = ring_verdict p s Idle i j refl refl
 plain_verdict p s Probe probe i j = ring_verdict p s Probe i j refl refl
 plain_verdict p s Pass pass i j = ring_verdict p s Pass i j refl refl
 plain_verdict p s Unknown none i j = ring_verdict p s Unknown i j refl refl
+plain_verdict p s Take x' i j = elim x' [ ]
+plain_verdict p s Announce x'' i j = elim x'' [ ]
 
 plain_kept :
     (p : Panel) (k : Kind) → Plain k → (i j : ℕ)
@@ -206,6 +208,8 @@ plain_kept p Idle idle i j = (refl, refl, refl)
 plain_kept p Probe probe i j = (refl, refl, refl)
 plain_kept p Pass pass i j = (refl, refl, refl)
 plain_kept p Unknown none i j = (refl, refl, refl)
+plain_kept p Take x' i j = elim x' [ ]
+plain_kept p Announce x'' i j = elim x'' [ ]
 
 pub rings_own : RingsOwn
 rings_own =

@@ -53,7 +53,7 @@ begun_at n m flags e a =
 begun_stays : (n : ℕ) (l : Leg) {p t : Panel} {ls acc : List Ask} → Run panel p ls t acc → nodes p ≡ n → Begun n l → Begun n (leg_from l acc)
 begun_stays n l stop e b = b
 begun_stays n l (took {s = p} {x = Step x} a c) e b =
-    begun_stays n _ c (n_after p (Step x) a ∙ e) (record { flags = b.flags; accepted = b.accepted; base_is = b.base_is })
+    begun_stays n (record { base = l.base; steps = l.steps ++ to_ring x ∷ [] }) c (n_after p (Step x) a ∙ e) (record { flags = b.flags; accepted = b.accepted; base_is = b.base_is })
 begun_stays n l (took {s = p} {x = Start m flags} a c) e b =
     let s = starts p m flags a in
     begun_stays n _ c (n_after p (Start m flags) a ∙ e) (begun_at n m flags (s.same_n ∙ e) s.accepted)
@@ -61,7 +61,7 @@ begun_stays n l (kept c) e b = begun_stays n l c e b
 
 begun : (n : ℕ) (l : Leg) {p t : Panel} {ls acc : List Ask} → Run panel p ls t acc → nodes p ≡ n → started_in acc ≡ true → Begun n (leg_from l acc)
 begun n l stop e b = absurd (false_true b)
-begun n l (took {s = p} {x = Step x} a c) e b = begun n _ c (n_after p (Step x) a ∙ e) b
+begun n l (took {s = p} {x = Step x} a c) e b = begun n (record { base = l.base; steps = l.steps ++ to_ring x ∷ [] }) c (n_after p (Step x) a ∙ e) b
 begun n l (took {s = p} {x = Start m flags} a c) e b =
     let s = starts p m flags a in
     begun_stays n _ c (n_after p (Start m flags) a ∙ e) (begun_at n m flags (s.same_n ∙ e) s.accepted)

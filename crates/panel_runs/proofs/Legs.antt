@@ -85,7 +85,7 @@ at_start p n flags a =
 
 pub run_leg : (l : Leg) {p t : Panel} {ls acc : List Ask} → Run panel p ls t acc → At l p → At (leg_from l acc) t
 run_leg l stop h = h
-run_leg l (took {s = p} {x = Step x} a c) h = run_leg _ c (at_step l p x h a)
+run_leg l (took {s = p} {x = Step x} a c) h = run_leg (record { base = l.base; steps = l.steps ++ to_ring x ∷ [] }) c (at_step l p x h a)
 run_leg l (took {s = p} {x = Start n flags} a c) h = run_leg _ c (at_start p n flags a)
 run_leg l (kept c) h = run_leg l c h
 
@@ -136,7 +136,7 @@ ring_moves (Start n flags ∷ acc) e m = absurd (false_true (sym e))
 -- the leg goes on by them
 pub leg_append : (l : Leg) (us vs : List Ask) → leg_from l (us ++ vs) ≡ leg_from (leg_from l us) vs
 leg_append l [] vs = refl
-leg_append l (Step x ∷ us) vs = leg_append _ us vs
+leg_append l (Step x ∷ us) vs = leg_append (record { base = l.base; steps = l.steps ++ to_ring x ∷ [] }) us vs
 leg_append l (Start n flags ∷ us) vs = leg_append _ us vs
 
 pub leg_goes_on : (l : Leg) (acc : List Ask) → ended_in acc ≡ false → leg_from l acc ≡ record { base = l.base; steps = l.steps ++ ring_of acc }

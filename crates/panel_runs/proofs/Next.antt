@@ -26,6 +26,10 @@ use Rattle.ring_rules.specs.Theorems.{TokenMove, passing, probing}
 use Rattle.ring_runs.specs.Counts.{kind, ring}
 use Rattle.ring_runs.specs.Requests.{announce}
 use Rattle.ring_runs.specs.WholeRun as ring_runs
+use Rattle.ring_rules.specs.Rules.{Idle}
+use Rattle.ring_rules.specs.Rules.{Send}
+use Rattle.ring_rules.specs.Rules.{Take}
+use Rattle.ring_rules.specs.Rules.{Unknown}
 
 -- an open sound ring takes an announcement exactly where the announce test holds
 pub announce_test : (r : State) → ring_sound.Open r → (x : Request) → kind x ≡ Announce → Accepts ring r x ↔ (conclusive r ≡ true)
@@ -48,6 +52,11 @@ module _ (p : Panel) (s : Sound p) (open_ring : p.ring.closed ≡ false) where
       go : (k : Kind) → TokenMove k → verdict_of p k x.i x.j ≡ ring_answers.verdict_of p.ring k x.i x.j
       go Probe probing = ring_verdict p s Probe x.i x.j refl refl
       go Pass passing = ring_verdict p s Pass x.i x.j refl refl
+      go Send x'' = elim x'' [ ]
+      go Take x3 = elim x3 [ ]
+      go Idle x4 = elim x4 [ ]
+      go Announce x5 = elim x5 [ ]
+      go Unknown x6 = elim x6 [ ]
 
   ring_takes : (y : Request) → Accepts panel p (Step y) → Accepts ring p.ring (to_ring y)
   ring_takes y a = ring_accepts p (kind y) y.i y.j a

@@ -58,6 +58,7 @@ module _ (p : Panel) (s : Sound p) (b : ℕ) where
   firmware_told_lem Probe i j r = refl
   firmware_told_lem Pass i j r = refl
   firmware_told_lem Announce i j r = refl
+  firmware_told_lem Unknown i j r = elim r [ ]
 
   map_told_lem : (k : Kind) (i j : ℕ) → Rule p.ring i (second k j) k → map_at (panel_effect p k i j) b ≡ map_told k i j (map_at p b) b
   map_told_lem Send i j r = refl
@@ -71,6 +72,7 @@ module _ (p : Panel) (s : Sound p) (b : ℕ) where
   map_told_lem Probe i j r = refl
   map_told_lem Pass i j r = refl
   map_told_lem Announce i j r = refl
+  map_told_lem Unknown i j r = elim r [ ]
 
 -- ---- whole chains
 
@@ -133,4 +135,10 @@ moves_keep (took {s = p} {x = Step x} a r) (move_first m ms) =
     kept_marks : (p : Panel) (k : Kind) (i j : ℕ) → TokenMove k → ((panel_effect p k i j).firmware ≡ p.firmware) × ((panel_effect p k i j).map ≡ p.map)
     kept_marks p Probe i j probing = (refl, refl)
     kept_marks p Pass i j passing = (refl, refl)
+    kept_marks p Send i j x6 = elim x6 [ ]
+    kept_marks p Take i j x7 = elim x7 [ ]
+    kept_marks p Idle i j x8 = elim x8 [ ]
+    kept_marks p Announce i j x9 = elim x9 [ ]
+    kept_marks p Unknown i j x10 = elim x10 [ ]
 moves_keep (kept r) m = moves_keep r m
+moves_keep (took {s = p} {t = t} {x = Start _ _} {xs = xs} {acc = acc} a r) m = elim m [ ]
