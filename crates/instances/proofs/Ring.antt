@@ -34,6 +34,7 @@ use Rattle.ring_runs.proofs.WholeRun.{whole_runs}
 use Rattle.ring_runs.specs.Counts.{Announced, Unannounced, active_by, kind, ring, transit_by}
 use Rattle.instances.specs.Ring.{HandedIn, Instances, QuietPoint, Unreached, Worked, alone, alone_sends, alone_takes, busy_answers, busy_moves, busy_requests, busy_ring, first, handed, moves, quiet_moves, quiet_ring, requests, start_flags}
 use Rattle.ring_runs.specs.Requests.{announce, numbers, probe}
+use Rattle.ring_rules.specs.Rules.{Unknown}
 
 -- ---- what no run gives
 
@@ -97,6 +98,7 @@ gathered_kept r x p a = go (kind x) x.i x.j (may r x a).by
         (omega (arith, ap (total r.received) last), omega (arith, ap (total r.sent) last))
     go Pass i j (passes hi lo e idle) = passed i lo e hi
     go Announce i j (announces c) = p
+    go Unknown i j x'' = elim x'' [ ]
 
 first_gathered : (n : ℕ) (fs : List ℕ) → Gathered (first_state n fs)
 unfolding first_state
@@ -138,6 +140,7 @@ unprobed_kept r x p a = go (kind x) x.i x.j (may r x a).by
     go Probe i j (probes z ag) = λ one b got. absurd (false_true b)
     go Pass i j (passes hi lo e idle) = λ one b got. absurd (omega arith)
     go Announce i j (announces c) = p
+    go Unknown i j x'' = elim x'' [ ]
 
 first_unprobed : (n : ℕ) (fs : List ℕ) → Unprobed (first_state n fs)
 unfolding first_state

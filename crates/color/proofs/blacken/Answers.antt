@@ -1,5 +1,4 @@
 use Rattle.color.specs.Colors.{blackened}
-use borrow.Author.Rules.{rules}
 use Rattle.color.proofs.blacken.Goals as goal
 
 pub returns : goal.returns

@@ -1,11 +1,6 @@
-use Prim.Native.Nat.{◌%◌, ◌*◌, ◌+◌, ◌-◌, ◌/◌, ◌<◌, ◌≤◌}
-use borrow.Author.Rules.{rules}
-use mathlib.Core.Bool.{◌&&◌}
-use mathlib.Core.Path.{◌∙◌, ◌≡◌, ap, ap₂, sym}
-use native.Mathlib.Omega.{arith}
-use Rattle.laws.proofs.Places.{none_from}
+use Prim.Native.Nat.{◌*◌, ◌+◌, ◌-◌, ◌<◌, ◌≤◌}
+use mathlib.Core.Path.{◌≡◌}
 use Rattle.color.specs.Between.{white_between}
-use Rattle.color.proofs.Bytes.{white_byte}
 use Rattle.color.proofs.white_from.Given as goal
 
 -- the bits below 8 at + `below` are looked at

@@ -1,5 +1,4 @@
 use Rattle.color.specs.Colors.{whitened}
-use borrow.Author.Rules.{rules}
 use Rattle.color.proofs.whiten.Goals as goal
 
 pub returns : goal.returns

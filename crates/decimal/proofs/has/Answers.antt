@@ -1,6 +1,5 @@
 use native.Mathlib.Omega.{arith}
 use Rattle.decimal.proofs.Words.{has_none, has_few}
-use borrow.Author.Rules.{rules}
 use Rattle.decimal.proofs.has.Goals as goal
 
 pub returns-then-s-at : goal.returns-then-s-at

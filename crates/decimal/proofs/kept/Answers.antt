@@ -1,6 +1,5 @@
 use borrow.Author.Tests.{lt-ltb, le-ltb}
 use Rattle.decimal.specs.Number.{kept_of}
-use borrow.Author.Rules.{rules}
 use Rattle.decimal.proofs.kept.Goals as goal
 
 pub returns-then-v-gt-NUMBER_LIMIT : goal.returns-then-v-gt-NUMBER_LIMIT

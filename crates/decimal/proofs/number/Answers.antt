@@ -1,6 +1,5 @@
 use borrow.Author.Tests.{eq-eqb, ne_eqb, lt-ltb, le-ltb, le-leb, lt-leb}
 use Rattle.decimal.specs.Number.{number_at, checked}
-use borrow.Author.Rules.{rules}
 use Rattle.decimal.proofs.number.Goals as goal
 
 pub returns-then-run-at : goal.returns-then-run-at

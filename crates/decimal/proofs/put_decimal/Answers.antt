@@ -2,7 +2,6 @@ use mathlib.Core.Path.{ap, ◌∙◌}
 use Prim.Native.Nat.{ℕ, ◌+◌}
 use Rattle.decimal.specs.Text.{put, last_digits}
 use Rattle.decimal.proofs.Decimal.{last_all}
-use borrow.Author.Rules.{rules}
 use Rattle.decimal.proofs.put_decimal.Goals as goal
 
 pub returns : goal.returns

@@ -1,11 +1,7 @@
-use mathlib.Core.Path.{◌≡◌, refl, sym, ◌∙◌}
+use mathlib.Core.Path.{◌≡◌}
 use Prim.Native.Nat.{◌+◌, ◌-◌, ◌≤◌}
-use native.Mathlib.Omega.{arith}
-use native.Mathlib.Nat.{add-zero}
-use borrow.Author.Rules.{rules}
-use lib.ListN.{length, drop, length-set}
+use lib.ListN.{length, drop}
 use Rattle.decimal.specs.Text.{put}
-use Rattle.decimal.proofs.Put.{put_more, put_end}
 use Rattle.decimal.proofs.put_word.Given as goal
 
 abbrev pub invariant-loop-j : goal.invariant-loop-j

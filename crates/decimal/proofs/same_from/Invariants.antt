@@ -1,11 +1,7 @@
-use mathlib.Core.Path.{◌≡◌, sym, ◌∙◌}
+use mathlib.Core.Path.{◌≡◌}
 use Prim.Native.Nat.{◌+◌, ◌-◌, ◌≤◌}
-use native.Mathlib.Omega.{arith}
-use native.Mathlib.Nat.{add-zero}
-use borrow.Author.Rules.{rules}
 use lib.ListN.{length, drop}
 use Rattle.decimal.specs.Word.{starts}
-use Rattle.decimal.proofs.Words.{has_more, has_stop, has_end}
 use Rattle.decimal.proofs.same_from.Given as goal
 
 abbrev pub invariant-loop-j : goal.invariant-loop-j

@@ -1,11 +1,7 @@
-use borrow.Author.Tests.{not-true, not-false}
-use mathlib.Core.Path.{◌≡◌, refl, sym, ap, ◌∙◌}
-use Prim.Native.Nat.{ℕ, ◌+◌, ◌-◌, ◌≤◌}
-use native.Mathlib.Omega.{arith}
-use borrow.Author.Rules.{rules}
+use mathlib.Core.Path.{◌≡◌}
+use Prim.Native.Nat.{◌-◌, ◌≤◌}
 use lib.ListN.{length, drop}
 use Rattle.decimal.specs.Number.{scan_of}
-use Rattle.decimal.proofs.Numbers.{digit_low, scan_end, scan_none, scan_more}
 use Rattle.decimal.proofs.scan_digits.Given as goal
 
 abbrev pub invariant-loop-i : goal.invariant-loop-i

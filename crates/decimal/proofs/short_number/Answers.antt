@@ -1,6 +1,5 @@
 use mathlib.Core.Path.{ap, ◌∙◌}
 use Rattle.decimal.specs.Number.{kept_of}
-use borrow.Author.Rules.{rules}
 use Rattle.decimal.proofs.short_number.Goals as goal
 
 pub returns : goal.returns

@@ -1,10 +1,8 @@
 use Rattle.decimal.proofs.Decimal.{width_is, width_most}
-use mathlib.Core.Path.{◌≡◌, refl, sym}
-use Prim.Native.Nat.{◌-◌, ◌^◌, ◌≤◌}
+use mathlib.Core.Path.{refl, sym}
+use Prim.Native.Nat.{◌^◌, ◌≤◌}
 use native.Mathlib.Omega.{arith}
 use borrow.Author.Rules.{rules}
-use lib.ListN.{length}
-use Rattle.decimal.specs.Text.{decimal}
 use Rattle.decimal.proofs.Decimal.{decimal_some, decimal_long, power_fits, power_more}
 use Rattle.decimal.proofs.width.Goals as goal
 

@@ -1,11 +1,7 @@
-use Rattle.decimal.proofs.Decimal.{width_is, width_most}
-use mathlib.Core.Path.{◌≡◌, refl, sym}
+use mathlib.Core.Path.{◌≡◌}
 use Prim.Native.Nat.{◌-◌, ◌^◌, ◌≤◌}
-use native.Mathlib.Omega.{arith}
-use borrow.Author.Rules.{rules}
 use lib.ListN.{length}
 use Rattle.decimal.specs.Text.{decimal}
-use Rattle.decimal.proofs.Decimal.{decimal_some, decimal_long, power_fits, power_more}
 use Rattle.decimal.proofs.width.Given as goal
 
 abbrev pub invariant-loop-over : goal.invariant-loop-over

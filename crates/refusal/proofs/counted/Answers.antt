@@ -1,4 +1,3 @@
-use borrow.Author.Tests.{not-false, not-true}
 use Rattle.refusal.proofs.counted.Goals as goal
 
 pub returns-then-not-sound : goal.returns-then-not-sound

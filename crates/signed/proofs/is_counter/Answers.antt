@@ -1,5 +1,4 @@
 use native.Mathlib.Omega.{arith}
-use borrow.Author.Rules.{rules}
 use Rattle.signed.proofs.Machine.{diff_fits, same_diff}
 use Rattle.signed.proofs.is_counter.Goals as goal
 

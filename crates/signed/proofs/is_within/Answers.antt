@@ -1,6 +1,5 @@
 use native.Mathlib.Omega.{arith}
 use Rattle.signed.proofs.Machine.{low_fits, near_test}
-use borrow.Author.Rules.{rules}
 use Rattle.signed.proofs.is_within.Goals as goal
 
 pub overflow_sub-result : goal.overflow_sub-result

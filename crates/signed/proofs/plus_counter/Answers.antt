@@ -1,5 +1,4 @@
 use native.Mathlib.Omega.{arith}
-use borrow.Author.Rules.{rules}
 use Rattle.signed.proofs.Machine.{diff_fits, sum_fits, sum_back}
 use Rattle.signed.proofs.plus_counter.Goals as goal
 
