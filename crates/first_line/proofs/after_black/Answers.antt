@@ -4,7 +4,6 @@ use borrow.Author.Tests.{not-true, not-false}
 use Rattle.decimal.specs.Bytes.{bytes}
 use Rattle.decimal.proofs.Words.{word_in}
 use Rattle.first_line.specs.Read.{after_black}
-use borrow.Author.Rules.{rules}
 use Rattle.first_line.proofs.after_black.Goals as goal
 
 pub returns-then-not-b : goal.returns-then-not-b

@@ -1,11 +1,10 @@
 use mathlib.Core.Path.{sym, ◌∙◌}
-use Prim.Native.Nat.{◌-◌, ◌≤◌}
+use Prim.Native.Nat.{◌≤◌}
 use native.Mathlib.Omega.{arith}
 use borrow.Author.Rules.{rules}
 use lib.ListN.{length, get_or-eq_default}
 use Rattle.forms.proofs.Arguments.{spaced_sound}
-use Rattle.first_line.specs.Read.{marks_of, entries_at}
-use Rattle.first_line.proofs.Nodes.{Left, left_all, left_end, left_wrong, left_low, left_more}
+use Rattle.first_line.proofs.Nodes.{left_all, left_end, left_wrong, left_low, left_more}
 use Rattle.first_line.proofs.entries.Goals as goal
 
 pub loop-at-init : goal.loop-at-init

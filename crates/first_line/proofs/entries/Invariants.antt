@@ -1,11 +1,7 @@
-use mathlib.Core.Path.{sym, ◌∙◌}
-use Prim.Native.Nat.{◌-◌, ◌≤◌}
-use native.Mathlib.Omega.{arith}
-use borrow.Author.Rules.{rules}
-use lib.ListN.{length, get_or-eq_default}
-use Rattle.forms.proofs.Arguments.{spaced_sound}
+use Prim.Native.Nat.{◌-◌}
+use lib.ListN.{length}
 use Rattle.first_line.specs.Read.{marks_of, entries_at}
-use Rattle.first_line.proofs.Nodes.{Left, left_all, left_end, left_wrong, left_low, left_more}
+use Rattle.first_line.proofs.Nodes.{Left}
 use Rattle.first_line.proofs.entries.Given as goal
 
 abbrev pub invariant-loop-at : goal.invariant-loop-at

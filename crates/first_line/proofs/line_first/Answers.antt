@@ -1,11 +1,9 @@
 use native.Mathlib.Omega.{arith}
 use mathlib.Core.Bool.{false}
 use mathlib.Core.Path.{◌≡◌, sym, ◌∙◌}
-use borrow.Author.Tests.{not-true, not-false}
 use Rattle.forms.proofs.Reading.{ends_sound}
 use Rattle.forms.specs.Read.{ends_line}
 use Rattle.first_line.specs.Read.{line_first}
-use borrow.Author.Rules.{rules}
 use Rattle.first_line.proofs.line_first.Goals as goal
 
 pub returns-then-not-ends_line : goal.returns-then-not-ends_line

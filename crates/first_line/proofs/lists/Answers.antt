@@ -1,12 +1,10 @@
 use native.Mathlib.Omega.{arith}
 use mathlib.Core.Path.{sym, ap, ◌∙◌}
-use borrow.Author.Tests.{not-true, not-false}
 use Rattle.decimal.specs.Bytes.{bytes}
 use Prim.Native.Nat.{◌+◌}
 use Rattle.decimal.proofs.Words.{word_in}
 use Rattle.first_line.specs.Read.{entries_at, after_active, lists_at}
 use Rattle.first_line.proofs.Seen.{active_seen}
-use borrow.Author.Rules.{rules}
 use Rattle.first_line.proofs.lists.Goals as goal
 
 pub returns-then-not-has : goal.returns-then-not-has

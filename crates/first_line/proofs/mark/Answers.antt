@@ -1,5 +1,4 @@
 use borrow.Author.Tests.{lt-ltb, le-ltb}
-use borrow.Author.Rules.{rules}
 use Rattle.first_line.proofs.mark.Goals as goal
 
 pub returns-then-k-lt-RING_NODES : goal.returns-then-k-lt-RING_NODES

@@ -1,7 +1,6 @@
 use mathlib.Core.Path.{◌∙◌}
 use Rattle.first_line.proofs.Seen.{ring_some, tree_some, form_seen, none_seen}
 use Rattle.first_line.proofs.Opens.{first_line_is_told}
-use borrow.Author.Rules.{rules}
 use Rattle.first_line.proofs.read_first.Goals as goal
 
 pub returns-in-Ring : goal.returns-in-Ring

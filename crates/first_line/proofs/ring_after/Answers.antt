@@ -3,7 +3,6 @@ use mathlib.Core.Path.{sym, ◌∙◌}
 use Rattle.decimal.specs.Bytes.{bytes}
 use Rattle.decimal.proofs.Words.{word_in}
 use Rattle.first_line.specs.Read.{ring_after}
-use borrow.Author.Rules.{rules}
 use Rattle.first_line.proofs.ring_after.Goals as goal
 
 pub overflow_add-p : goal.overflow_add-p

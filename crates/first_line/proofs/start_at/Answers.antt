@@ -3,7 +3,6 @@ use mathlib.Core.Path.{sym, ◌∙◌}
 use Rattle.decimal.specs.Bytes.{bytes}
 use Rattle.decimal.proofs.Words.{word_in}
 use Rattle.first_line.specs.Read.{start_at}
-use borrow.Author.Rules.{rules}
 use Rattle.first_line.proofs.start_at.Goals as goal
 
 pub overflow_add-at : goal.overflow_add-at

@@ -1,10 +1,8 @@
 use native.Mathlib.Omega.{arith}
 use mathlib.Core.Path.{sym, ◌∙◌}
-use borrow.Author.Tests.{not-true, not-false}
 use Rattle.decimal.specs.Bytes.{bytes}
 use Rattle.decimal.proofs.Words.{word_in}
 use Rattle.first_line.specs.Read.{tree_after}
-use borrow.Author.Rules.{rules}
 use Rattle.first_line.proofs.tree_after.Goals as goal
 
 pub returns-then-not-has : goal.returns-then-not-has

@@ -1,11 +1,8 @@
-use Prim.Native.Nat.{◌-◌, ◌<◌, ◌≤◌}
-use borrow.Author.Rules.{rules}
+use Prim.Native.Nat.{◌-◌, ◌≤◌}
 use lib.ListN.{drop, length}
 use mathlib.Core.Bool.{◌&&◌}
-use mathlib.Core.Path.{◌∙◌, ◌≡◌, refl, sym}
-use native.Mathlib.Omega.{arith}
+use mathlib.Core.Path.{◌≡◌}
 use Rattle.flag_bytes.specs.Flags.{are_flags}
-use Rattle.flag_bytes.proofs.Laws.{tested_all, tested_next}
 use Rattle.flag_bytes.proofs.are_flags.Given as goal
 
 abbrev pub invariant-loop-i : goal.invariant-loop-i

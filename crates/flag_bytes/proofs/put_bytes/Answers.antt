@@ -1,9 +1,7 @@
-use Prim.Native.Nat.{◌-◌, ◌<◌, ◌≤◌}
-use borrow.Author.Rules.{rules}
-use lib.ListN.{length, length-set, take}
+use Prim.Native.Nat.{◌<◌, ◌≤◌}
+use lib.ListN.{length, length-set}
 use mathlib.Core.Bool.{false}
-use mathlib.Core.List.{map}
-use mathlib.Core.Path.{◌≡◌, refl}
+use mathlib.Core.Path.{refl}
 use native.Mathlib.Omega.{arith}
 use Rattle.flag_bytes.specs.Flags.{byte_of, bytes_of}
 use Rattle.flag_bytes.proofs.Laws.{made_all, made_next}

@@ -1,8 +1,6 @@
-use Prim.Native.Nat.{◌-◌, ◌<◌, ◌≤◌}
-use borrow.Author.Rules.{rules}
-use lib.ListN.{length, length-set, take}
-use mathlib.Core.List.{map}
-use mathlib.Core.Path.{◌≡◌, refl}
+use Prim.Native.Nat.{◌<◌, ◌≤◌}
+use lib.ListN.{length, length-set}
+use mathlib.Core.Path.{refl}
 use native.Mathlib.Omega.{arith}
 use Rattle.flag_bytes.specs.Flags.{flag_of, flags_of}
 use Rattle.flag_bytes.proofs.Laws.{made_all, made_next}

@@ -1,11 +1,8 @@
-use Prim.Native.Nat.{◌-◌, ◌<◌, ◌≤◌}
-use borrow.Author.Rules.{rules}
-use lib.ListN.{length, length-set, take}
+use Prim.Native.Nat.{◌-◌, ◌≤◌}
+use lib.ListN.{length, take}
 use mathlib.Core.List.{map}
-use mathlib.Core.Path.{◌≡◌, refl}
-use native.Mathlib.Omega.{arith}
-use Rattle.flag_bytes.specs.Flags.{flag_of, flags_of}
-use Rattle.flag_bytes.proofs.Laws.{made_all, made_next}
+use mathlib.Core.Path.{◌≡◌}
+use Rattle.flag_bytes.specs.Flags.{flag_of}
 use Rattle.flag_bytes.proofs.put_flags.Given as goal
 
 abbrev pub invariant-loop-i : goal.invariant-loop-i

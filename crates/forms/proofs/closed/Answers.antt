@@ -3,7 +3,6 @@ use borrow.Author.Tests.{eq-eqb, ne_eqb}
 use Rattle.decimal.proofs.Cases.{in_text}
 use Rattle.forms.specs.Read.{closed_of}
 use Rattle.forms.proofs.Arguments.{byte_word}
-use borrow.Author.Rules.{rules}
 use Rattle.forms.proofs.closed.Goals as goal
 
 pub returns-then-byte_at-ne41 : goal.returns-then-byte_at-ne41

@@ -5,13 +5,12 @@ use lib.ListN.{drop}
 use mathlib.Core.Bool.{false}
 use mathlib.Core.Logic.{⊎_elim}
 use mathlib.Core.Path.{◌≡◌, sym, ◌∙◌}
-use borrow.Author.Tests.{not-true, not-false, lt-ltb, le-ltb}
+use borrow.Author.Tests.{lt-ltb, le-ltb}
 use Rattle.decimal.proofs.Cases.{split}
 use Rattle.decimal.specs.Bytes.{bytes}
 use Rattle.decimal.specs.Word.{starts}
 use Rattle.forms.specs.Form.{line_bytes}
 use Rattle.forms.specs.Read.{ends_line}
-use borrow.Author.Rules.{rules}
 use Rattle.forms.proofs.ends_line.Goals as goal
 
 -- the same test, of two numbers that fit

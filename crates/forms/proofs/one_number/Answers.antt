@@ -1,5 +1,4 @@
 use Rattle.forms.specs.Read.{one_of}
-use borrow.Author.Rules.{rules}
 use Rattle.forms.proofs.one_number.Goals as goal
 
 pub returns-in-Value : goal.returns-in-Value

@@ -3,7 +3,6 @@ use borrow.Author.Tests.{eq-eqb, ne_eqb}
 use Rattle.decimal.proofs.Cases.{in_text}
 use Rattle.forms.specs.Read.{closed_of, one_of, two_of}
 use Rattle.forms.proofs.Arguments.{byte_word}
-use borrow.Author.Rules.{rules}
 use Rattle.forms.proofs.one_or_two.Goals as goal
 
 pub overflow_add-result : goal.overflow_add-result

@@ -1,5 +1,4 @@
 use Rattle.forms.specs.Read.{second_of}
-use borrow.Author.Rules.{rules}
 use Rattle.forms.proofs.second.Goals as goal
 
 pub returns-in-Value : goal.returns-in-Value

@@ -3,7 +3,6 @@ use native.Mathlib.Omega.{arith}
 use mathlib.Core.Path.{sym, ◌∙◌}
 use Rattle.forms.specs.Read.{second_of}
 use Rattle.forms.proofs.Arguments.{spaced_sound, closed_raised}
-use borrow.Author.Rules.{rules}
 use Rattle.forms.proofs.second_more.Goals as goal
 
 pub overflow_add-j : goal.overflow_add-j

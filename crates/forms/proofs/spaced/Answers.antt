@@ -2,7 +2,6 @@ use native.Mathlib.Omega.{arith}
 use borrow.Author.Tests.{eq-eqb, ne_eqb}
 use Rattle.decimal.proofs.Cases.{in_text}
 use Rattle.forms.specs.Read.{spaced_of}
-use borrow.Author.Rules.{rules}
 use Rattle.forms.proofs.spaced.Goals as goal
 
 pub returns-then-byte_at-ne32 : goal.returns-then-byte_at-ne32

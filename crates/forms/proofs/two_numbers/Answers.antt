@@ -1,5 +1,4 @@
 use Rattle.forms.specs.Read.{two_of}
-use borrow.Author.Rules.{rules}
 use Rattle.forms.proofs.two_numbers.Goals as goal
 
 pub returns-in-Value : goal.returns-in-Value

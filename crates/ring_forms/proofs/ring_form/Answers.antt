@@ -4,7 +4,6 @@ use Rattle.decimal.specs.Bytes.{bytes}
 use Rattle.decimal.proofs.Words.{word_in}
 use Rattle.forms.specs.declared.Args.{Args}
 use Rattle.forms.specs.Read.{made_of, ring_kind, ring_line_of, read_by}
-use borrow.Author.Rules.{rules}
 use Rattle.ring_forms.proofs.ring_form.Goals as goal
 
 pub overflow_add-at : goal.overflow_add-at

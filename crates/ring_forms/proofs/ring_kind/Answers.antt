@@ -1,5 +1,4 @@
 use borrow.Author.Tests.{ne_eqb}
-use borrow.Author.Rules.{rules}
 use Rattle.ring_forms.proofs.ring_kind.Goals as goal
 
 pub returns-in-1 : goal.returns-in-1

@@ -1,6 +1,5 @@
 use Rattle.forms.proofs.Steps.{ring_made}
 use Rattle.forms.specs.Read.{made_of}
-use borrow.Author.Rules.{rules}
 use Rattle.ring_forms.proofs.ring_line.Goals as goal
 
 pub returns-in-Found : goal.returns-in-Found

@@ -3,7 +3,6 @@ use Prim.Native.Nat.{ℕ, zero, suc, ◌-◌, ◌<◌}
 use native.Mathlib.Omega.{arith}
 use Rattle.forms.specs.declared.RingStep.TheVariants.{TakeOne, Take}
 use Rattle.forms.specs.Read.{ring_take}
-use borrow.Author.Rules.{rules}
 use Rattle.ring_forms.proofs.ring_take.Goals as goal
 
 take_none : (i j : ℕ) → j ≡ 0 → TakeOne i ≡ ring_take i j

@@ -1,6 +1,5 @@
 use Rattle.forms.proofs.Steps.{tree_made}
 use Rattle.forms.specs.Read.{made_of}
-use borrow.Author.Rules.{rules}
 use Rattle.tree_forms.proofs.tree_line.Goals as goal
 
 pub returns-in-Found : goal.returns-in-Found

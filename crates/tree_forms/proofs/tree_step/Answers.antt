@@ -4,7 +4,6 @@ use borrow.Author.Tests.{eq-eqb, ne_eqb}
 use Rattle.decimal.proofs.Cases.{in_text}
 use Rattle.forms.proofs.Arguments.{byte_word}
 use Rattle.forms.proofs.Steps.{tree_told, tree_line, tree_no_line}
-use borrow.Author.Rules.{rules}
 use Rattle.tree_forms.proofs.tree_step.Goals as goal
 
 pub returns-then-byte_at-ne10 : goal.returns-then-byte_at-ne10

@@ -1,12 +1,10 @@
 use native.Mathlib.Omega.{arith}
 use Prim.Native.Nat.{◌+◌}
 use mathlib.Core.Path.{◌≡◌, sym, ◌∙◌}
-use borrow.Author.Tests.{not-true, not-false}
 use Rattle.decimal.specs.Bytes.{bytes}
 use Rattle.decimal.proofs.Words.{word_in}
 use Rattle.forms.specs.Read.{spaced_of}
 use Rattle.update_forms.specs.Read.{opened_of}
-use borrow.Author.Rules.{rules}
 use Rattle.update_forms.proofs.opened.Goals as goal
 
 pub returns-then-not-has : goal.returns-then-not-has

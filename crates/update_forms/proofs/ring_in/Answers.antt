@@ -3,13 +3,11 @@ use Prim.Native.Nat.{◌+◌}
 use lib.ListN.{drop}
 use mathlib.Core.Bool.{false}
 use mathlib.Core.Path.{◌≡◌, sym, ◌∙◌}
-use borrow.Author.Tests.{not-true, not-false}
 use Rattle.decimal.specs.Bytes.{bytes}
 use Rattle.decimal.specs.Word.{starts}
 use Rattle.decimal.proofs.Words.{word_in}
 use Rattle.forms.proofs.Reading.{ends_sound}
 use Rattle.update_forms.specs.Read.{start_in}
-use borrow.Author.Rules.{rules}
 use Rattle.update_forms.proofs.ring_in.Goals as goal
 
 pub returns-then-not-has : goal.returns-then-not-has

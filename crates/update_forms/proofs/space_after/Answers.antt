@@ -3,7 +3,6 @@ use borrow.Author.Tests.{eq-eqb, ne_eqb}
 use Rattle.decimal.proofs.Cases.{in_text}
 use Rattle.forms.proofs.Arguments.{byte_word}
 use Rattle.update_forms.specs.Read.{space_after}
-use borrow.Author.Rules.{rules}
 use Rattle.update_forms.proofs.space_after.Goals as goal
 
 pub returns-then-byte_at-ne32 : goal.returns-then-byte_at-ne32

@@ -1,7 +1,6 @@
 use mathlib.Core.Path.{sym, ap, ◌∙◌}
 use Rattle.first_line.specs.declared.FirstKind.{FirstKind}
 use Rattle.update_forms.specs.Read.{start_in}
-use borrow.Author.Rules.{rules}
 use Rattle.update_forms.proofs.start_in.Goals as goal
 
 pub returns-in-Ring : goal.returns-in-Ring

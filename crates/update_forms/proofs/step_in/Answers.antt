@@ -4,7 +4,6 @@ use borrow.Author.Tests.{eq-eqb, ne_eqb}
 use Rattle.decimal.proofs.Cases.{in_text}
 use Rattle.forms.proofs.Arguments.{byte_word}
 use Rattle.update_forms.specs.Read.{step_in}
-use borrow.Author.Rules.{rules}
 use Rattle.update_forms.proofs.step_in.Goals as goal
 
 pub returns-then-byte_at-ne41 : goal.returns-then-byte_at-ne41

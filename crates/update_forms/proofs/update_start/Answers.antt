@@ -2,7 +2,6 @@ use mathlib.Core.Path.{sym, ap, ◌∙◌}
 use Rattle.first_line.specs.declared.First.{First}
 use Rattle.update_forms.specs.Read.{start_in}
 use Rattle.update_forms.proofs.Held.{start_held, no_start_held}
-use borrow.Author.Rules.{rules}
 use Rattle.update_forms.proofs.update_start.Goals as goal
 
 pub returns-in-Value : goal.returns-in-Value

@@ -1,7 +1,6 @@
 use mathlib.Core.Path.{sym, ap, ◌∙◌}
 use Rattle.update_forms.specs.Read.{step_in}
 use Rattle.update_forms.proofs.Held.{step_held, no_step_held, update_told}
-use borrow.Author.Rules.{rules}
 use Rattle.update_forms.proofs.update_step.Goals as goal
 
 pub returns-in-Value : goal.returns-in-Value
