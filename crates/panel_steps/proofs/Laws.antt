@@ -94,6 +94,8 @@ module _ (p : Panel) (s : Sound p) where
   plain_answer Probe probe i j v r e = kept v r ∙ ring-answer Probe i j refl refl v r e
   plain_answer Pass pass i j v r e = kept v r ∙ ring-answer Pass i j refl refl v r e
   plain_answer Unknown none i j v r e = kept v r ∙ ring-answer Unknown i j refl refl v r e
+  plain_answer Take x'' i j v r e = elim x'' [ ]
+  plain_answer Announce x3 i j v r e = elim x3 [ ]
 
   -- a close of an open panel: the test of announce, and then the marks
   module _ (c : p.ring.closed ≡ false) where
