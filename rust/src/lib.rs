@@ -5,6 +5,7 @@
 #![forbid(unsafe_code)]
 
 pub mod bounds;
+pub mod clauses;
 mod decimal;
 pub mod forms;
 pub mod generate;

@@ -1,7 +1,7 @@
-//! The repository's sizes, and the times that a run of the gate told:
+//! The repository's sizes, and what a run of the gate told:
 //! `measure [LOG]`, from the repository's top. LOG is what `.ci/run` printed.
 //! Prints a row for each crate: lines of code, definitions, statements and proofs, the
-//! number of must-fail edits, seconds of its check, and seconds of its edits.
+//! number of must-fail edits, and of those that were refused; then rt's own line of what the run did, and its times.
 
 use second::statements::STATEMENT_FILES;
 use std::collections::BTreeMap;
@@ -24,8 +24,7 @@ struct Row {
     statements: usize,
     proofs: usize,
     edits: usize,
-    check: u64,
-    edit_time: u64,
+    refused: usize,
 }
 
 impl Row {
@@ -35,20 +34,13 @@ impl Row {
         self.statements += other.statements;
         self.proofs += other.proofs;
         self.edits += other.edits;
-        self.check += other.check;
-        self.edit_time += other.edit_time;
+        self.refused += other.refused;
     }
 
     fn print(&self, name: &str) {
         println!(
-            "| {name} | {} | {} | {} | {} | {} | {} | {} |",
-            self.code,
-            self.definitions,
-            self.statements,
-            self.proofs,
-            self.edits,
-            self.check,
-            self.edit_time
+            "| {name} | {} | {} | {} | {} | {} | {} |",
+            self.code, self.definitions, self.statements, self.proofs, self.edits, self.refused
         );
     }
 }
@@ -89,29 +81,16 @@ fn sizes(folder: &Path) -> io::Result<Row> {
     })
 }
 
-/// The number before " s)" at the end of a line of the gate.
-fn seconds(line: &str) -> Option<u64> {
-    let line = line.strip_suffix(" s)")?;
-    line.rsplit(|c: char| !c.is_ascii_digit())
-        .next()?
-        .parse()
-        .ok()
-}
-
-/// Adds the times that a line tells: `rt: NAME proved (3 s)` and `rt: must-fail NAME/EDIT: .. 3 s)`.
-fn add_times(line: &str, rows: &mut BTreeMap<String, Row>) {
-    let (Some(told), Some(seconds)) = (line.strip_prefix("rt: "), seconds(line)) else {
-        return;
-    };
-    if let Some(edit) = told.strip_prefix("must-fail ") {
-        let name = edit.split('/').next().unwrap_or_default();
-        if let Some(row) = rows.get_mut(name) {
-            row.edit_time += seconds;
-        }
-    } else if let Some((name, _)) = told.split_once(" proved (") {
-        if let Some(row) = rows.get_mut(name) {
-            row.check += seconds;
-        }
+/// Counts what a line tells: `rt: must-fail NAME/EDIT: refused, ..`.
+fn add_refused(line: &str, rows: &mut BTreeMap<String, Row>) {
+    let told = line.strip_prefix("rt: must-fail ");
+    let name = told.and_then(|told| {
+        let (edit, rest) = told.split_once(": ")?;
+        let (name, _) = edit.split_once('/')?;
+        rest.starts_with("refused").then_some(name)
+    });
+    if let Some(row) = name.and_then(|name| rows.get_mut(name)) {
+        row.refused += 1;
     }
 }
 
@@ -123,16 +102,17 @@ fn run(log: Option<&str>) -> io::Result<()> {
         rows.insert(name.into_owned(), sizes(&path)?);
     }
     let text = log.map_or(Ok(String::new()), fs::read_to_string)?;
-    text.lines().for_each(|line| add_times(line, &mut rows));
-    println!("| Crate | code | definitions | statements | proofs | edits | check, s | edits, s |");
-    println!("|---|---|---|---|---|---|---|---|");
+    text.lines().for_each(|line| add_refused(line, &mut rows));
+    println!("| Crate | code | definitions | statements | proofs | edits | refused |");
+    println!("|---|---|---|---|---|---|---|");
     let mut total = Row::default();
     for (name, row) in &rows {
         row.print(&format!("`{name}`"));
         total.add(row);
     }
     total.print("all");
-    for line in text.lines().filter(|line| line.starts_with("gate: ")) {
+    let is_told = |line: &&str| line.starts_with("rt: ok") || line.starts_with("gate: ");
+    for line in text.lines().filter(is_told) {
         println!("\n{line}");
     }
     Ok(())

@@ -110,7 +110,8 @@ fn there() -> BTreeSet<String> {
             let path = path.strip_prefix(top()).expect("a file of the repository");
             let path = path.to_str().expect("a path in UTF-8").to_owned();
             let is_code = path.ends_with(".rt");
-            let is_empty = read(&path).lines().all(|line| line.starts_with("//"));
+            let says_nothing = |line: &str| line.starts_with("//") || line.starts_with("#![");
+            let is_empty = read(&path).lines().all(says_nothing);
             if !(path.ends_with("/Lib.antt") || (is_code && is_empty)) {
                 found.insert(path);
             }
@@ -133,10 +134,11 @@ fn imports(text: &str) -> BTreeSet<String> {
         let line = line.strip_prefix("ghost ").unwrap_or(line);
         let rest = line.strip_prefix("use ")?;
         if let Some((name, what)) = rest.split_once("::") {
-            return what.starts_with(char::is_uppercase).then(|| code(name));
+            let mut names = what.trim_start_matches('{').split(", ");
+            let has_type = names.any(|name| name.starts_with(char::is_uppercase));
+            return (has_type && crates.contains(name)).then(|| code(name));
         }
-        let (owner, rest) = rest.strip_prefix("Rattle·")?.split_once(".specs.")?;
-        let owner = owner.trim_end_matches("·specs");
+        let (owner, rest) = rest.strip_prefix("Rattle.")?.split_once(".specs.")?;
         let end = rest.find(|c: char| !(c.is_alphanumeric() || c == '_'));
         let file = &rest[..end.unwrap_or(rest.len())];
         crates.contains(owner).then(|| match file {
@@ -180,12 +182,21 @@ fn told(page: &str) -> Vec<String> {
     spans.map(str::to_owned).collect()
 }
 
-/// The toolchain's modules that the table's files import, and its crates that theirs depend on.
+/// The crate of which a line of code imports something.
+fn owner(line: &str) -> Option<&str> {
+    let (name, _) = line.strip_prefix("use ")?.split_once("::")?;
+    Some(name)
+}
+
+/// The toolchain's modules that the table's files import, its crates that theirs depend on, and those that code imports without that, as `std`.
 fn used(page: &str) -> BTreeSet<String> {
     let crates = crates();
     let mut found = BTreeSet::new();
     for path in listed(page) {
-        found.extend(modules(&read(&path)));
+        let text = read(&path);
+        found.extend(modules(&text));
+        let owners = text.lines().filter_map(owner).map(str::to_owned);
+        found.extend(owners.filter(|other| !crates.contains(other) && other != "crate"));
         let name = path.split('/').nth(1).expect("a crate");
         let others = dependencies(name).into_iter();
         found.extend(others.filter(|other| !crates.contains(other)));
@@ -271,15 +282,16 @@ fn what_is_told_of_the_toolchain_is_read() {
 
 #[test]
 fn imports_are_found() {
-    let text = "use Rattle·ring·specs.specs.View.{state}\nghost use Rattle·refusal.specs.declared.{A};\nuse ring_check::Rest;\n\
-                use ring_check::refused;\nuse Rattle·io.specs.Counts.{c}\nuse lib.Dec.{eqb}\nuse lib.ListN as l\n-- use lib.No.{x}\n";
+    let text = "use Rattle.ring.specs.View.{state}\nghost use Rattle.refusal.specs.declared.{A};\nuse ring_check::Rest;\n\
+                use ring_check::refused;\nuse tree_check::{is_free, Rest};\nuse log_text::{put_answer, put_item};\nuse Rattle.std.specs.Prelude.{c}\nuse lib.Dec.{eqb}\nuse lib.ListN as l\n-- use lib.No.{x}\n";
     let files = [
         "refusal/src/lib.rt",
         "ring/specs/View.antt",
         "ring_check/src/lib.rt",
+        "tree_check/src/lib.rt",
     ];
     let found: Vec<String> = imports(text).into_iter().collect();
     assert_eq!(found, files.map(|file| format!("crates/{file}")));
     let found: Vec<String> = modules(text).into_iter().collect();
-    assert_eq!(found, ["Rattle·io.specs.Counts", "lib.Dec", "lib.ListN"]);
+    assert_eq!(found, ["Rattle.std.specs.Prelude", "lib.Dec", "lib.ListN"]);
 }

@@ -18,7 +18,7 @@ pub struct File {
 
 pub struct Declared {
     pub files: Vec<File>,
-    /// The crates, and those of the toolchain that they use.
+    /// The crates, and those of the toolchain that they use; `std` is used by each.
     pub crates: BTreeSet<String>,
     /// The toolchain's modules that are imported anywhere.
     pub modules: BTreeSet<String>,
@@ -46,7 +46,7 @@ impl Declared {
     fn read() -> Self {
         let mut declared = Self {
             files: Vec::new(),
-            crates: crates(),
+            crates: crates().into_iter().chain(["std".to_owned()]).collect(),
             modules: BTreeSet::new(),
         };
         for name in crates() {
@@ -71,7 +71,7 @@ impl Declared {
     }
 }
 
-/// The modules of the toolchain that a text imports, as `lib.Dec` or `Rattle·io.specs.Counts`.
+/// The modules of the toolchain that a text imports, as `lib.Dec` or `Rattle.std.specs.Prelude`.
 pub fn modules(text: &str) -> BTreeSet<String> {
     let ours = crates();
     let module = |line: &str| {
@@ -80,9 +80,9 @@ pub fn modules(text: &str) -> BTreeSet<String> {
         let end = rest.find(".{").or_else(|| rest.find(" as "));
         let module = &rest[..end.unwrap_or(rest.len())];
         let owner = module
-            .strip_prefix("Rattle·")
-            .map(|rest| rest.split(['.', '·']).next());
-        let is_ours = owner.flatten().is_some_and(|owner| ours.contains(owner));
+            .strip_prefix("Rattle.")
+            .and_then(|rest| rest.split('.').next());
+        let is_ours = owner.is_some_and(|owner| ours.contains(owner));
         (!is_ours && !module.contains("::")).then(|| module.to_owned())
     };
     text.lines().filter_map(module).collect()

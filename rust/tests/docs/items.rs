@@ -21,12 +21,11 @@ impl Imports {
         imports
     }
 
-    /// `use Rattle·crate.specs.File.{a, b as c}` or `use Rattle·crate.specs.File as f`.
+    /// `use Rattle.crate.specs.File.{a, b as c}` or `use Rattle.crate.specs.File as f`.
     fn add(&mut self, line: &str) -> Option<()> {
         let line = line.strip_prefix("ghost ").unwrap_or(line);
-        let rest = line.trim_end_matches(';').strip_prefix("use Rattle·")?;
+        let rest = line.trim_end_matches(';').strip_prefix("use Rattle.")?;
         let (owner, rest) = rest.split_once(".specs.")?;
-        let owner = owner.trim_end_matches("·specs");
         let path = |file: &str| format!("crates/{owner}/specs/{file}.antt");
         if let Some((file, short)) = rest.split_once(" as ").filter(|_| !rest.contains('{')) {
             self.files.insert(short.to_owned(), path(file));
@@ -61,7 +60,7 @@ pub struct Item {
 
 /// The words of a text that can refer to something; parts, as `.next`, do not.
 pub fn words(text: &str) -> impl Iterator<Item = &str> {
-    text.split(|c: char| c.is_whitespace() || "(){}[],;⌜⌝λ".contains(c))
+    text.split(|c: char| c.is_whitespace() || "(){}[],;λ".contains(c))
         .filter(|word| !word.starts_with('.'))
         .map(|word| word.trim_end_matches('.'))
 }

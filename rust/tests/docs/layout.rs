@@ -1,7 +1,7 @@
 //! The layout: every crate stands on one floor, the same in README and in crates.txt, and uses no floor further on; each has its row in the
 //! table of times.
 
-use crate::repository::{crates, read, rows, section};
+use crate::repository::{crates, listed, read, rows, section};
 use std::collections::BTreeMap;
 
 const FLOORS: [&str; 5] = ["bytes", "forms", "detectors", "theorems", "programs"];
@@ -33,7 +33,7 @@ fn by_list() -> BTreeMap<String, &'static str> {
                 .into_iter()
                 .find(|name| comment.starts_with(name))
                 .or(floor);
-        } else if let Some((name, _)) = line.split_once(':') {
+        } else if let Some((name, _)) = listed(line) {
             found.insert(
                 name.to_owned(),
                 floor.expect("a floor above the first crate"),
@@ -58,12 +58,10 @@ fn a_crate_uses_its_own_floor_and_those_before_it() {
         let floor = floors.get(name)?;
         FLOORS.iter().position(|other| other == floor)
     };
-    let list = read("crates.txt");
-    let crates = list.lines().filter(|line| !line.starts_with('#'));
-    for (name, used) in crates.filter_map(|line| line.split_once(':')) {
-        for other in used.split_whitespace() {
+    for (name, used) in read("crates.txt").lines().filter_map(listed) {
+        for other in used {
             // The toolchain's own libraries stand on no floor.
-            let below = height(other).is_none_or(|other| Some(other) <= height(name));
+            let below = height(&other).is_none_or(|other| Some(other) <= height(name));
             assert!(below, "{name} uses {other}");
         }
     }

@@ -254,7 +254,7 @@ fn a_name_stands_in_its_place() {
     for page in [
         format!("`Pumped` ({run}); `Turned` (Turn.antt)"),
         "`Ran` (crates/ring_driver)".to_owned(),
-        "`feed`, `finish` (crates/log, crates/log_finish)".to_owned(),
+        "`feed`, `finish` (crates/log_feed, crates/log_finish)".to_owned(),
     ] {
         assert_eq!(undeclared(&page), Vec::<String>::new());
     }
@@ -286,10 +286,10 @@ fn promises_has_columns_of_both() {
 #[test]
 fn a_column_is_its_own_detectors() {
     let head = "| Sentence | Ring | Tree |\n|---|---|---|\n";
-    let page = format!("{head}| a | `Counted.moves-alone` | `Counted`, `.closing-alone` |\n");
+    let page = format!("{head}| a | `Counted.moves_alone` | `Counted`, `.closing_alone` |\n");
     assert_eq!(undeclared(&page), Vec::<String>::new());
-    let page = format!("{head}| a | `Counted`, `.closing-alone` | `Counted.moves-alone` |\n");
-    assert_eq!(undeclared(&page), [".closing-alone", "Counted.moves-alone"]);
+    let page = format!("{head}| a | `Counted`, `.closing_alone` | `Counted.moves_alone` |\n");
+    assert_eq!(undeclared(&page), [".closing_alone", "Counted.moves_alone"]);
     let page = format!("{head}| a | `FollowsRing` | `NonInterference.same` |\n");
     assert_eq!(undeclared(&page), ["FollowsRing", "NonInterference.same"]);
 }

@@ -26,25 +26,26 @@ pub fn names_in(folder: &Path) -> Vec<String> {
     names
 }
 
+/// A crate and what it depends on, by a line of crates.txt: `NAME: LIBRARY ..`, or `NAME staticlib: LIBRARY ..`.
+pub fn listed(line: &str) -> Option<(&str, Vec<String>)> {
+    let (name, used) = line.split_once(':').filter(|_| !line.starts_with('#'))?;
+    let used = used.split_whitespace().map(str::to_owned).collect();
+    Some((name.strip_suffix(" staticlib").unwrap_or(name), used))
+}
+
 /// The crates of crates.txt.
 pub fn crates() -> BTreeSet<String> {
     read("crates.txt")
         .lines()
-        .filter(|line| !line.starts_with('#'))
-        .filter_map(|line| Some(line.split_once(':')?.0.to_owned()))
+        .filter_map(|line| Some(listed(line)?.0.to_owned()))
         .collect()
 }
 
 /// What a crate depends on, by crates.txt.
 pub fn dependencies(name: &str) -> Vec<String> {
     let list = read("crates.txt");
-    let used = list
-        .lines()
-        .find_map(|line| line.strip_prefix(name)?.strip_prefix(':'));
-    used.expect(name)
-        .split_whitespace()
-        .map(str::to_owned)
-        .collect()
+    let mut crates = list.lines().filter_map(listed);
+    crates.find(|(other, _)| *other == name).expect(name).1
 }
 
 /// The files of a crate's folder `specs`, `proofs` or `src`, with those of folders in it.

@@ -1,9 +1,10 @@
 //! The naming rule of docs/PROMISES.md: a statement of `specs/` is proved in `proofs/` of the same crate under its name in lower case
-//! (`WholeRuns`: `whole-runs`), or it is a part of one that is, or of the contract of a function. It is asked of every record, data type and
+//! (`WholeRuns`: `whole_runs`), or it is a part of one that is, or of the contract of a function. It is asked of every record, data type and
 //! definition of a type in all files of `specs/`; one is a part where another one's declaration, or a definition that occurs in it, uses it.
 
 use crate::items::{items, words, Id, Imports, Item};
 use crate::repository::{crates, files, read, top};
+use second::clauses::clauses;
 use second::statements::STATEMENT_FILES;
 use std::collections::{BTreeMap, BTreeSet};
 
@@ -12,9 +13,9 @@ const OTHERWISE: [(&str, &str, &str); 2] = [
     (
         "crates/decimal/specs/Exact.antt",
         "NumberAt",
-        "number-exact",
+        "number_exact",
     ),
-    ("crates/decimal/specs/Exact.antt", "ShortAt", "short-exact"),
+    ("crates/decimal/specs/Exact.antt", "ShortAt", "short_exact"),
 ];
 
 /// The texts of the files of a folder of all crates, by path from the top.
@@ -33,7 +34,7 @@ fn lower(name: &str) -> String {
     let mut lower = String::new();
     for (k, c) in name.chars().enumerate() {
         if c.is_uppercase() && k > 0 {
-            lower.push('-');
+            lower.push('_');
         }
         lower.extend(c.to_lowercase());
     }
@@ -98,12 +99,14 @@ fn speaks(text: &str, name: &str, statement: &Id) -> bool {
         .any(|type_| words(conclusion(type_)).any(is_it))
 }
 
-/// The texts between `ensures {` and the end of it; with `all`, of every contract.
+/// What the clauses `ensures` say; with `all`, the `requires` too.
 fn contracts(text: &str, all: bool) -> String {
-    let start = if all { "⌜" } else { "ensures {" };
-    let parts = text.split(start).skip(1);
-    let end = if all { "⌝" } else { "⌝ }" };
-    parts.filter_map(|part| part.split(end).next()).collect()
+    let kinds: &[&str] = if all {
+        &["ensures", "requires"]
+    } else {
+        &["ensures"]
+    };
+    clauses(text, kinds)
 }
 
 /// The statements and definitions that contracts of the code use.
@@ -221,7 +224,7 @@ fn a_conclusion_is_the_whole_of_it() {
         "Claim".to_owned(),
     );
     let proof = |type_: &str| {
-        let import = "use Rattle·a·specs.specs.Theorems.{Claim, Other}\nuse Rattle·a·specs.specs.Theorems as t";
+        let import = "use Rattle.a.specs.Theorems.{Claim, Other}\nuse Rattle.a.specs.Theorems as t";
         format!("{import}\npub claim : {type_}\nclaim = x\n")
     };
     for type_ in [
@@ -238,7 +241,7 @@ fn a_conclusion_is_the_whole_of_it() {
         "(Claim) → Other",
         "Other → (n → Claim)",
         "Unknown.Claim",
-        "Other\nclaim-b : Claim",
+        "Other\nclaim_b : Claim",
     ] {
         assert!(!proves(&proof(type_), "claim", &statement), "{type_}");
     }
@@ -262,12 +265,12 @@ fn an_unproved_statement_is_found() {
 
 #[test]
 fn contracts_are_read() {
-    let code = "requires { ⌜ A x ⌝ }\n    ensures { λ r. ⌜ B r\n        ≡ C ⌝ }\n{ D }\n";
+    let code = "    requires { A x }\n    ensures first { record { a = B result }\n        ≡ C }\n    ensures second { D }\n{ E }\n// ensures { F }\n";
     let names = |all| {
         let text = contracts(code, all);
         let names = words(&text).filter(|word| word.starts_with(char::is_uppercase));
         names.map(str::to_owned).collect::<Vec<_>>()
     };
-    assert_eq!(names(false), ["B", "C"]);
-    assert_eq!(names(true), ["A", "B", "C"]);
+    assert_eq!(names(false), ["B", "C", "D"]);
+    assert_eq!(names(true), ["A", "B", "C", "D"]);
 }
