@@ -107,8 +107,8 @@ map_last p ls b word us vs e h s =
     ∙ ap (λ (t : Bool). cond t (map_said word before) before) (eq-eqb b b refl)
     ∙ map_said_lem word before h
 
-pub marks_are_told : MarksTold
-marks_are_told =
+pub marks_told : MarksTold
+marks_told =
     record {
       firmware_first = λ p ls b s. firmware_stays (firmware_at p b) b (accepted_of panel p ls) s;
       firmware_last = firmware_last;
