@@ -34,8 +34,8 @@ returns-then-buf-text_length c =
 pub put_tree-end-requires : goal.put_tree-end-requires
 put_tree-end-requires c =
     let t = state c.args.tree in
-    let h : sound_test t ≡ true = sym c.is_sound.ensures ∙ c.if-not-is_sound.false in
-    let T = sound_tree t (sound_true t h) in
+    let good : sound_test t ≡ true = sym c.is_sound.ensures ∙ c.if-not-is_sound.false in
+    let T = sound_tree t (sound_true t good) in
     let l = tree_length t.n t.engager t.root T in
     (T.places, omega (arith, T.root_in, T.nodes), omega (arith, l, c.text_length.ensures, c.if-buf-text_length.false))
 
@@ -43,9 +43,9 @@ pub returns : goal.returns
 returns c =
     let a = c.args in
     let t = state a.tree in
-    let h : sound_test t ≡ true = sym c.is_sound.ensures ∙ c.if-not-is_sound.false in
-    let l = tree_length t.n t.engager t.root (sound_tree t (sound_true t h)) in
+    let whole : sound_test t ≡ true = sym c.is_sound.ensures ∙ c.if-not-is_sound.false in
+    let l = tree_length t.n t.engager t.root (sound_tree t (sound_true t whole)) in
     let room : length (state_text t) ≤ length a.buf.now = omega (arith, l, c.text_length.ensures, c.if-buf-text_length.false) in
-    let v = fits t a.buf.now h room in
+    let v = fits t a.buf.now whole room in
     let r : c.put_tree-end.result ≡ length (state_text t) = omega (arith, c.put_tree-end.ensures.0) in
     (ap Length r ∙ sym (told_yes t a.buf.now v), c.put_tree-end.ensures.1 ∙ sym (left_yes t a.buf.now v))
