@@ -1,0 +1,13 @@
+use borrow.Author.Rules.{rules}
+use lib.Dec.{eqb}
+use mathlib.Core.Bool.{Bool, ◌&&◌, ◌||◌}
+use mathlib.Core.Path.{ap}
+use Rattle.flag_bytes.specs.Flags.{is_flag}
+use Rattle.table_fields.proofs.are_flags.Goals as goal
+
+pub are_flags-column-requires : goal.are_flags-column-requires
+are_flags-column-requires c = tt
+
+pub returns : goal.returns
+returns c =
+    ap (λ (b : Bool). eqb c.args.n 0 || (b && (is_flag c.args.black && is_flag c.args.closed))) c.are_flags-column.ensures
