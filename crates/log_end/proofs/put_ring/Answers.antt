@@ -1,4 +1,3 @@
-use borrow.Author.Rules.{rules}
 use Rattle.ring_rules.specs.State.{black_nodes, in_transit}
 use Rattle.log_end.proofs.put_ring.Goals as goal
 

@@ -6,7 +6,6 @@ use native.Mathlib.Omega.{arith}
 use Rattle.decimal.specs.Bytes.{bytes}
 use Rattle.decimal.specs.Text.{decimal}
 use Rattle.log_text.proofs.Texts.{item-length, item_wrote, wrote_then}
-use Rattle.tree_rules.specs.State.{engaged}
 use Rattle.tree_rules.specs.Termination.{acks_total}
 use Rattle.tree_text.specs.Write.{state_text}
 use Rattle.log_end.proofs.Items.{item_short, tree_short}

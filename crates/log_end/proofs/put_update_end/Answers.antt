@@ -6,7 +6,6 @@ use Rattle.log_rules.specs.Answers.{ring_end_by}
 use Rattle.log_text.proofs.Texts.{item-length, item_wrote, wrote_then}
 use Rattle.ring.specs.View.{state}
 use Rattle.log_end.proofs.Items.{item_short}
-use borrow.Author.Rules.{rules}
 use Rattle.log_end.proofs.put_update_end.Goals as goal
 
 pub put_item-a-requires : goal.put_item-a-requires

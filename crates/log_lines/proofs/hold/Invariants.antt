@@ -1,12 +1,9 @@
 use Prim.Native.Nat.{◌+◌, ◌-◌, ◌≤◌, min}
-use borrow.Author.Rules.{rules}
 use lib.ListN.{length, take}
 use mathlib.Core.List.{◌++◌}
-use mathlib.Core.Path.{◌∙◌, ◌≡◌, refl}
-use native.Mathlib.Omega.{arith}
+use mathlib.Core.Path.{◌≡◌}
 use Rattle.log_rules.specs.Pieces.{long_bytes}
 use Rattle.forms.specs.Form.{line_bytes}
-use Rattle.log_lines.proofs.Parts.{count_more, hold_end, hold_more}
 use Rattle.log_lines.specs.Lines.{part}
 use Rattle.log_lines.proofs.hold.Given as goal
 

@@ -1,4 +1,3 @@
-use borrow.Author.Rules.{rules}
 use native.Mathlib.Omega.{arith}
 use Rattle.log_lines.proofs.Parts.{keep_full, keep_more}
 use Rattle.log_lines.proofs.keep.Goals as goal

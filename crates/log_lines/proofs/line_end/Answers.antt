@@ -1,10 +1,7 @@
-use Prim.Native.Nat.{◌-◌}
 use borrow.Author.Rules.{rules}
-use lib.ListN.{length}
-use mathlib.Core.Path.{◌∙◌, ◌≡◌, refl, sym}
+use mathlib.Core.Path.{◌∙◌, refl, sym}
 use native.Mathlib.Omega.{arith}
 use Rattle.log_lines.proofs.Ends.{end_here, end_more, end_none}
-use Rattle.log_lines.specs.Lines.{end_at}
 use Rattle.log_lines.proofs.line_end.Goals as goal
 
 pub loop-i-init : goal.loop-i-init

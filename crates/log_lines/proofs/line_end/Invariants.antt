@@ -1,9 +1,6 @@
 use Prim.Native.Nat.{◌-◌}
-use borrow.Author.Rules.{rules}
 use lib.ListN.{length}
-use mathlib.Core.Path.{◌∙◌, ◌≡◌, refl, sym}
-use native.Mathlib.Omega.{arith}
-use Rattle.log_lines.proofs.Ends.{end_here, end_more, end_none}
+use mathlib.Core.Path.{◌≡◌}
 use Rattle.log_lines.specs.Lines.{end_at}
 use Rattle.log_lines.proofs.line_end.Given as goal
 

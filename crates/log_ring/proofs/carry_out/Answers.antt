@@ -2,7 +2,6 @@ use mathlib.Core.Path.{◌∙◌}
 use Rattle.log_rules.specs.Answers.{ring_request}
 use Rattle.ring_rules.proofs.Answers.{closed_answer}
 use Rattle.ring_rules.specs.Rules.{kind_of}
-use borrow.Author.Rules.{rules}
 use Rattle.log_ring.proofs.carry_out.Goals as goal
 
 pub returns-then-r : goal.returns-then-r

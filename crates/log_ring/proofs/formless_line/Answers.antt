@@ -1,5 +1,4 @@
 use Prim.Native.Nat.{◌+◌}
-use borrow.Author.Rules.{rules}
 use native.Mathlib.Omega.{arith}
 use Rattle.log_text.proofs.Texts.{answer_short}
 use Rattle.refusal.specs.declared.Refusal.TheVariants.{NotAForm}

@@ -1,5 +1,4 @@
 use Prim.Native.Nat.{◌≤◌, ℕ}
-use borrow.Author.Rules.{rules}
 use mathlib.Core.Path.{◌∙◌, subst⁻¹}
 use native.Mathlib.Omega.{arith}
 use Rattle.log_rules.specs.Answers.{is_move}

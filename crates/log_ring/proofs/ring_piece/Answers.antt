@@ -1,4 +1,3 @@
-use borrow.Author.Rules.{rules}
 use mathlib.Core.Path.{refl, subst⁻¹}
 use Rattle.ring_rules.specs.Soundness.{Sound}
 use Rattle.log_ring.proofs.Laws.{fed_by}

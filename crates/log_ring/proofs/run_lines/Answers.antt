@@ -1,14 +1,12 @@
-use Prim.Native.Nat.{◌-◌, ℕ}
+use Prim.Native.Nat.{ℕ}
 use borrow.Author.Tests.{ltb-false, ltb-true}
-use lib.ListN.{drop, length}
+use lib.ListN.{drop}
 use mathlib.Core.Bool.{false}
 use mathlib.Core.Path.{◌≡◌, refl, subst⁻¹}
 use native.Mathlib.Omega.{arith}
 use Rattle.log_lines.proofs.Ends.{none_left}
 use Rattle.log_rules.specs.Pieces.{cut, full, has_line}
-use Rattle.ring_check.specs.Whole.{whole}
 use Rattle.log_ring.proofs.Laws.{run_fits, run_none, run_then}
-use Rattle.log_ring.specs.Run.{RingWent}
 use Rattle.log_ring.proofs.run_lines.Goals as goal
 
 pub loop-r-init : goal.loop-r-init

@@ -1,5 +1,4 @@
 use Prim.Native.Nat.{◌+◌, ◌≤◌}
-use borrow.Author.Rules.{rules}
 use lib.ListN.{length}
 use mathlib.Core.Path.{subst}
 use Rattle.log_rules.specs.Answers.{answer_text}

@@ -1,4 +1,3 @@
-use borrow.Author.Rules.{rules}
 use lib.ListN.{length-append}
 use mathlib.Core.Path.{◌∙◌}
 use native.Mathlib.Omega.{arith}

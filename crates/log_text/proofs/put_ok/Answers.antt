@@ -1,4 +1,3 @@
-use borrow.Author.Rules.{rules}
 use native.Mathlib.Omega.{arith}
 use Rattle.decimal.specs.Bytes.{bytes}
 use Rattle.log_text.proofs.Texts.{item-length, item_wrote}

@@ -1,14 +1,12 @@
-use Prim.Native.Nat.{◌-◌, ℕ}
+use Prim.Native.Nat.{ℕ}
 use borrow.Author.Tests.{ltb-false, ltb-true}
-use lib.ListN.{drop, length}
+use lib.ListN.{drop}
 use mathlib.Core.Bool.{false}
 use mathlib.Core.Path.{◌≡◌, refl, subst⁻¹}
 use native.Mathlib.Omega.{arith}
 use Rattle.log_lines.proofs.Ends.{none_left}
 use Rattle.log_rules.specs.Pieces.{cut, full, has_line}
-use Rattle.tree_check.specs.Whole.{whole}
 use Rattle.log_tree.proofs.Laws.{run_fits, run_none, run_then}
-use Rattle.log_tree.specs.Run.{TreeWent}
 use Rattle.log_tree.proofs.run_lines.Goals as goal
 
 pub loop-r-init : goal.loop-r-init

@@ -1,4 +1,3 @@
-use borrow.Author.Rules.{rules}
 use mathlib.Core.Path.{refl, subst⁻¹}
 use Rattle.tree_rules.specs.Soundness.{Sound}
 use Rattle.log_tree.proofs.Laws.{fed_by}

@@ -1,4 +1,3 @@
-use borrow.Author.Rules.{rules}
 use mathlib.Core.Path.{ap}
 use Rattle.refusal.specs.declared.Verdict.TheVariants.{Refused}
 use Rattle.ring_rules.specs.Start.{active_from, blank, color_from, first_state}

@@ -1,8 +1,5 @@
-use Prim.Native.Nat.{◌*◌, ◌+◌, ◌-◌, ◌^◌, ◌≤◌}
-use borrow.Author.Rules.{rules}
-use mathlib.Core.Path.{◌∙◌, ◌≡◌, ap, ap₂, sym}
-use native.Mathlib.Omega.{arith}
-use Rattle.laws.proofs.Sums.{sum_none, total_next}
+use Prim.Native.Nat.{◌*◌, ◌-◌, ◌^◌, ◌≤◌}
+use mathlib.Core.Path.{◌≡◌}
 use Rattle.laws.specs.Sums.{total}
 use Rattle.ring_check.proofs.sum_to.Given as goal
 

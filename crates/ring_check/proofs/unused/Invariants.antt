@@ -1,9 +1,6 @@
 use Prim.Native.Nat.{◌-◌, ◌≤◌}
-use borrow.Author.Rules.{rules}
-use mathlib.Core.Path.{◌∙◌, ◌≡◌, ap}
-use native.Mathlib.Omega.{arith}
-use Rattle.ring_check.proofs.Laws.{empty_next, empty_none, empty_between, unused_is}
-use Rattle.ring_check.specs.Whole.{whole}
+use mathlib.Core.Path.{◌≡◌}
+use Rattle.ring_check.proofs.Laws.{empty_between}
 use Rattle.ring_check.proofs.unused.Given as goal
 
 abbrev pub invariant-loop-i : goal.invariant-loop-i

@@ -1,9 +1,7 @@
-use Prim.Native.Nat.{◌-◌, ◌≤◌}
-use mathlib.Core.Path.{◌∙◌, ◌≡◌, ap, subst, sym}
+use mathlib.Core.Path.{◌∙◌, ap, subst, sym}
 use native.Mathlib.Omega.{arith}
 use Rattle.laws.proofs.Tests.{told_false, told_true}
 use Rattle.ring_check.proofs.Laws.{small_sum}
-use Rattle.ring_check.specs.Whole.{whole}
 use Rattle.ring_rules.proofs.Driver.{move_open}
 use Rattle.ring_rules.specs.Driver.{drive_from}
 use Rattle.ring_rules.specs.Soundness.{Open}

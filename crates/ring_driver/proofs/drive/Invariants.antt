@@ -1,13 +1,8 @@
 use Prim.Native.Nat.{◌-◌, ◌≤◌}
-use mathlib.Core.Path.{◌∙◌, ◌≡◌, ap, subst, sym}
-use native.Mathlib.Omega.{arith}
-use Rattle.laws.proofs.Tests.{told_false, told_true}
-use Rattle.ring_check.proofs.Laws.{small_sum}
+use mathlib.Core.Path.{◌≡◌}
 use Rattle.ring_check.specs.Whole.{whole}
-use Rattle.ring_rules.proofs.Driver.{move_open}
 use Rattle.ring_rules.specs.Driver.{drive_from}
 use Rattle.ring_rules.specs.Soundness.{Open}
-use Rattle.ring_driver.proofs.Laws.{ends_conclusive, ends_spent, ends_waiting, none_made, one_more}
 use Rattle.ring_driver.proofs.drive.Given as goal
 
 abbrev pub invariant-loop-rest : goal.invariant-loop-rest

@@ -1,4 +1,3 @@
-use borrow.Author.Rules.{rules}
 use mathlib.Core.Path.{◌∙◌, ap}
 use Rattle.ring_rules.specs.Answers.{Answer}
 use Rattle.ring_driver.proofs.Laws.{pass_moves, probe_moves}

@@ -1,4 +1,3 @@
-use borrow.Author.Rules.{rules}
 use mathlib.Core.Path.{◌∙◌}
 use Rattle.ring_check.proofs.Laws.{small_sum}
 use Rattle.ring_check.specs.Whole.{whole}

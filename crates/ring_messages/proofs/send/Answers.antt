@@ -1,4 +1,4 @@
-use borrow.Author.Tests.{le-leb, lt-leb, not-false, not-true}
+use borrow.Author.Tests.{le-leb, lt-leb}
 use lib.Dec.{leb}
 use mathlib.Core.Path.{◌∙◌, ap, refl, sym}
 use native.Mathlib.Omega.{arith}
@@ -7,7 +7,6 @@ use Rattle.laws.proofs.Tests.{left_true, right_true}
 use Rattle.ring_rules.proofs.Answers.{accepted_answer, limit_answer, node_answer, rule_answer}
 use Rattle.ring_rules.specs.Rules.{Send}
 use Rattle.refusal.specs.Table.{send_limit}
-use borrow.Author.Rules.{rules}
 use Rattle.ring_messages.proofs.send.Goals as goal
 
 pub returns-then-r-i : goal.returns-then-r-i

@@ -1,11 +1,10 @@
-use borrow.Author.Tests.{le-leb, lt-leb, not-false, not-true}
+use borrow.Author.Tests.{le-leb, lt-leb}
 use mathlib.Core.Path.{◌∙◌, refl, sym}
 use native.Mathlib.Omega.{arith}
 use Rattle.laws.proofs.Sums.{total_at}
 use Rattle.ring_rules.proofs.Accepted.{take_true}
 use Rattle.ring_rules.proofs.Answers.{accepted_answer, node_answer, rule_answer}
 use Rattle.ring_rules.specs.Rules.{Take}
-use borrow.Author.Rules.{rules}
 use Rattle.ring_messages.proofs.take.Goals as goal
 
 pub returns-then-r-i : goal.returns-then-r-i

@@ -1,5 +1,3 @@
-use Prim.Native.Nat.{◌-◌, ◌≤◌}
-use borrow.Author.Rules.{rules}
 use lib.ListN.{get_or, set}
 use mathlib.Core.Bool.{Bool}
 use mathlib.Core.List.{List}

@@ -1,11 +1,6 @@
 use Prim.Native.Nat.{◌-◌, ◌≤◌}
-use borrow.Author.Rules.{rules}
-use lib.Dec.{leb}
-use lib.ListN.{get_or}
-use mathlib.Core.Bool.{Bool, ◌&&◌}
-use mathlib.Core.Path.{◌∙◌, ◌≡◌, ap, refl, sym}
-use native.Mathlib.Omega.{arith}
-use Rattle.ring_start.proofs.Laws.{flags_other, flags_small, small_next, small_to}
+use mathlib.Core.Path.{◌≡◌}
+use Rattle.ring_start.proofs.Laws.{small_to}
 use Rattle.ring_start.proofs.flags_fit.Given as goal
 
 abbrev pub invariant-loop-i : goal.invariant-loop-i

@@ -4,7 +4,6 @@ use Rattle.ring_rules.proofs.Answers.{closed_answer, kind_answer}
 use Rattle.ring_rules.proofs.Theorems.{fields_unread}
 use Rattle.ring_rules.specs.Rules.{kind_of}
 use Rattle.ring_rules.specs.Soundness.{Open}
-use borrow.Author.Rules.{rules}
 use Rattle.ring_steps.proofs.step.Goals as goal
 
 pub returns-then-r : goal.returns-then-r

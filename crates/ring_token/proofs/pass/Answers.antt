@@ -1,6 +1,6 @@
 use lib.Dec.{ltb}
 use Rattle.laws.proofs.Tests.{both}
-use borrow.Author.Tests.{le-leb, lt-leb, ltb-true, not-false, not-true}
+use borrow.Author.Tests.{le-leb, lt-leb, ltb-true}
 use mathlib.Core.Path.{refl}
 use mir.Facts.{to_z-of_z}
 use mir.Syntax.{w64}

@@ -3,7 +3,6 @@ use Rattle.laws.proofs.Tests.{told_false, told_true}
 use Rattle.ring_check.proofs.Laws.{small_sum}
 use Rattle.ring_rules.proofs.Answers.{accepted_answer, rule_answer}
 use Rattle.ring_rules.specs.Rules.{Probe}
-use borrow.Author.Rules.{rules}
 use Rattle.ring_token.proofs.probe.Goals as goal
 
 pub may_probe-requires : goal.may_probe-requires

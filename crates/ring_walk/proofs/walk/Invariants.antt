@@ -1,9 +1,4 @@
-use Prim.Native.Nat.{◌+◌, ◌-◌}
-use borrow.Author.Rules.{rules}
-use mathlib.Core.Logic.{⊎_elim}
-use mathlib.Core.Path.{◌≡◌}
-use native.Mathlib.Omega.{arith}
-use Rattle.ring_walk.proofs.Laws.{Behind, Going, Higher, behind_node, going_all, going_none, higher_kept, higher_node, lower_kept, lower_node}
+use Rattle.ring_walk.proofs.Laws.{Going}
 use Rattle.ring_walk.proofs.walk.Given as goal
 
 abbrev pub invariant-loop-i : goal.invariant-loop-i

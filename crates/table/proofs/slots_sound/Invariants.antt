@@ -1,13 +1,9 @@
-use Prim.Native.Nat.{◌-◌, ◌≤◌, ℕ}
-use borrow.Author.Rules.{rules}
-use lib.ListN.{length}
-use mathlib.Core.Path.{◌∙◌, ◌≡◌, ap, refl}
-use native.Mathlib.Omega.{arith}
+use Prim.Native.Nat.{◌-◌, ◌≤◌}
+use mathlib.Core.Path.{◌≡◌}
 use Rattle.laws.specs.Places.{all_to}
 use Rattle.table_rules.specs.Soundness.{slot_test}
 use Rattle.table_rules.specs.Table.{slot_at}
 use Rattle.table.specs.View.{table_by}
-use Rattle.table.proofs.Laws.{sound_next}
 use Rattle.table.proofs.slots_sound.Given as goal
 
 abbrev pub invariant-loop-v : goal.invariant-loop-v

@@ -1,8 +1,5 @@
-use borrow.Author.Rules.{rules}
-use Prim.Native.Nat.{◌-◌}
 use mathlib.Core.Path.{subst}
 use native.Mathlib.Omega.{arith}
-use Rattle.table_steps.specs.Memory.{memory}
 use Rattle.table_columns.proofs.Laws.{Alike, empty_places, held, read}
 use Rattle.table_columns.proofs.gather.Goals as goal
 

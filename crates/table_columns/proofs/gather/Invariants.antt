@@ -1,9 +1,6 @@
-use borrow.Author.Rules.{rules}
 use Prim.Native.Nat.{◌-◌}
-use mathlib.Core.Path.{subst}
-use native.Mathlib.Omega.{arith}
 use Rattle.table_steps.specs.Memory.{memory}
-use Rattle.table_columns.proofs.Laws.{Alike, empty_places, held, read}
+use Rattle.table_columns.proofs.Laws.{Alike}
 use Rattle.table_columns.proofs.gather.Given as goal
 
 abbrev pub invariant-loop-u : goal.invariant-loop-u

@@ -1,10 +1,6 @@
-use borrow.Author.Rules.{rules}
-use Prim.Native.Nat.{◌+◌, ◌-◌}
-use lib.ListN.{length-map}
-use mathlib.Core.Path.{◌∙◌, subst, sym}
-use native.Mathlib.Omega.{arith}
-use Rattle.table_steps.specs.Memory.{Memory, memory}
-use Rattle.table_columns.proofs.Laws.{Alike, held, stored}
+use Prim.Native.Nat.{◌-◌}
+use Rattle.table_steps.specs.Memory.{memory}
+use Rattle.table_columns.proofs.Laws.{Alike}
 use Rattle.table_columns.proofs.scatter.Given as goal
 
 abbrev pub invariant-loop-v : goal.invariant-loop-v

@@ -1,9 +1,6 @@
 use Prim.Native.Nat.{◌-◌, ◌≤◌}
-use borrow.Author.Rules.{rules}
-use mathlib.Core.Path.{◌∙◌, ◌≡◌, ap}
-use native.Mathlib.Omega.{arith}
+use mathlib.Core.Path.{◌≡◌}
 use Rattle.table_start.specs.Fixed.{fixed_in}
-use Rattle.table_start.proofs.Laws.{fixed_next, fixed_none}
 use Rattle.table_start.proofs.fixed_of.Given as goal
 
 abbrev pub invariant-loop-v : goal.invariant-loop-v

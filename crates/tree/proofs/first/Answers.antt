@@ -1,4 +1,3 @@
-use borrow.Author.Rules.{rules}
 use mathlib.Core.Path.{refl}
 use Rattle.tree_rules.specs.Start.{first_state}
 use Rattle.tree.proofs.first.Goals as goal

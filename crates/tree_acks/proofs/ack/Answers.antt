@@ -5,7 +5,6 @@ use native.Mathlib.Omega.{arith}
 use Rattle.tree_rules.proofs.Answers.{accepted_answer, node_answer, rule_answer}
 use Rattle.tree_rules.proofs.Bounds.{ack_awaited}
 use Rattle.tree_rules.specs.Rules.{Ack}
-use borrow.Author.Rules.{rules}
 use Rattle.tree_acks.proofs.ack.Goals as goal
 
 pub returns-then-r-i : goal.returns-then-r-i

@@ -1,8 +1,6 @@
-use borrow.Author.Tests.{not-false, not-true}
 use mathlib.Core.Path.{◌∙◌, refl, sym}
 use Rattle.tree_rules.proofs.Answers.{accepted_answer, rule_answer}
 use Rattle.tree_rules.specs.Rules.{Announce}
-use borrow.Author.Rules.{rules}
 use Rattle.tree_acks.proofs.announce.Goals as goal
 
 pub returns-then-not-is_conclusive : goal.returns-then-not-is_conclusive

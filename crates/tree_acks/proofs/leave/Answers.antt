@@ -1,10 +1,9 @@
-use borrow.Author.Tests.{le-leb, lt-leb, not-false, not-true}
+use borrow.Author.Tests.{le-leb, lt-leb}
 use mathlib.Core.Path.{refl}
 use native.Mathlib.Omega.{arith}
 use Rattle.tree_rules.proofs.Answers.{accepted_answer, node_answer, rule_answer}
 use Rattle.tree_rules.proofs.Bounds.{acks_small, leaver_engager}
 use Rattle.tree_rules.specs.Rules.{Leave, may_leave}
-use borrow.Author.Rules.{rules}
 use Rattle.tree_acks.proofs.leave.Goals as goal
 
 pub returns-then-r-i : goal.returns-then-r-i

@@ -1,12 +1,7 @@
-use Prim.Native.Nat.{◌-◌, ◌≤◌, ℕ}
-use borrow.Author.Rules.{rules}
-use lib.Dec.{eqb}
-use mathlib.Core.Bool.{◌&&◌, cond, not}
-use mathlib.Core.Path.{◌∙◌, ◌≡◌, ap}
-use native.Mathlib.Omega.{arith}
-use Rattle.laws.proofs.Sums.{count_next, count_none}
+use Prim.Native.Nat.{◌-◌, ◌≤◌}
+use mathlib.Core.Path.{◌≡◌}
 use Rattle.laws.specs.Sums.{count_to}
-use Rattle.tree_rules.specs.State.{children, is_child}
+use Rattle.tree_rules.specs.State.{is_child}
 use Rattle.tree_check.proofs.children_of.Given as goal
 
 abbrev pub invariant-loop-i : goal.invariant-loop-i

@@ -1,4 +1,3 @@
-use borrow.Author.Rules.{rules}
 use mathlib.Core.Path.{refl}
 use Rattle.tree_rules.specs.Rules.{conclusive}
 use Rattle.tree_check.proofs.is_conclusive.Goals as goal

@@ -1,5 +1,3 @@
-use borrow.Author.Rules.{rules}
-use borrow.Author.Tests.{not-false, not-true}
 use mathlib.Core.Path.{◌∙◌, refl, sym}
 use native.Mathlib.Omega.{arith}
 use Rattle.tree_check.proofs.Laws.{by_parts, closed_part, in_range_lem, limit_part, no_root, not_own, open_part, too_many}

@@ -1,11 +1,7 @@
-use Prim.Native.Nat.{◌*◌, ◌+◌, ◌-◌, ◌^◌, ◌≤◌, ℕ}
-use borrow.Author.Rules.{rules}
+use Prim.Native.Nat.{◌*◌, ◌+◌, ◌-◌, ◌^◌, ◌≤◌}
 use lib.ListN.{get_or}
-use mathlib.Core.Path.{◌∙◌, ◌≡◌, ap}
-use native.Mathlib.Omega.{arith}
-use Rattle.laws.proofs.Sums.{sum_next, sum_none}
+use mathlib.Core.Path.{◌≡◌}
 use Rattle.laws.specs.Sums.{sum_to}
-use Rattle.tree_rules.specs.State.{messages_from}
 use Rattle.tree_check.proofs.messages_from.Given as goal
 
 abbrev pub invariant-loop-k : goal.invariant-loop-k

@@ -1,9 +1,6 @@
 use Prim.Native.Nat.{◌-◌, ◌≤◌}
-use borrow.Author.Rules.{rules}
-use mathlib.Core.Path.{◌∙◌, ◌≡◌, ap, refl, sym}
-use native.Mathlib.Omega.{arith}
-use Rattle.tree_check.proofs.Laws.{pairs_all, pairs_next, pairs_to}
-use Rattle.tree_check.specs.Whole.{whole}
+use mathlib.Core.Path.{◌≡◌}
+use Rattle.tree_check.proofs.Laws.{pairs_to}
 use Rattle.tree_check.proofs.pairs_ok.Given as goal
 
 abbrev pub invariant-loop-k : goal.invariant-loop-k

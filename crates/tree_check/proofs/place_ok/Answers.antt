@@ -1,4 +1,3 @@
-use borrow.Author.Rules.{rules}
 use Rattle.tree_rules.specs.Soundness.{balance_test, chain_test, engager_test, place_test, rest_test}
 use Rattle.tree_check.proofs.place_ok.Goals as goal
 

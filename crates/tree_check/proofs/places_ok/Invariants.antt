@@ -1,8 +1,6 @@
 use Prim.Native.Nat.{◌-◌, ◌≤◌}
-use borrow.Author.Rules.{rules}
-use mathlib.Core.Path.{◌∙◌, ◌≡◌, ap, refl, sym}
-use native.Mathlib.Omega.{arith}
-use Rattle.tree_check.proofs.Laws.{places_all, places_next, places_to}
+use mathlib.Core.Path.{◌≡◌}
+use Rattle.tree_check.proofs.Laws.{places_to}
 use Rattle.tree_check.specs.Whole.{whole}
 use Rattle.tree_check.proofs.places_ok.Given as goal
 

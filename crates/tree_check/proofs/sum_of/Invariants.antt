@@ -1,9 +1,6 @@
-use Prim.Native.Nat.{◌*◌, ◌-◌, ◌^◌, ◌≤◌, ℕ}
-use borrow.Author.Rules.{rules}
+use Prim.Native.Nat.{◌*◌, ◌-◌, ◌^◌, ◌≤◌}
 use lib.ListN.{get_or}
-use mathlib.Core.Path.{◌∙◌, ◌≡◌, ap}
-use native.Mathlib.Omega.{arith}
-use Rattle.laws.proofs.Sums.{sum_next, sum_none}
+use mathlib.Core.Path.{◌≡◌}
 use Rattle.laws.specs.Sums.{sum_to}
 use Rattle.tree_check.proofs.sum_of.Given as goal
 

@@ -1,8 +1,7 @@
-use borrow.Author.Tests.{le-leb, lt-leb, not-false, not-true}
+use borrow.Author.Tests.{le-leb, lt-leb}
 use mathlib.Core.Path.{refl}
 use Rattle.tree_rules.proofs.Answers.{accepted_answer, node_answer, rule_answer}
 use Rattle.tree_rules.specs.Rules.{Idle}
-use borrow.Author.Rules.{rules}
 use Rattle.tree_messages.proofs.idle.Goals as goal
 
 pub returns-then-r-i : goal.returns-then-r-i

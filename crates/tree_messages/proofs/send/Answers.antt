@@ -1,4 +1,4 @@
-use borrow.Author.Tests.{le-leb, lt-leb, not-false, not-true}
+use borrow.Author.Tests.{le-leb, lt-leb}
 use lib.Dec.{leb}
 use mathlib.Core.Path.{refl}
 use native.Mathlib.Omega.{arith}
@@ -6,7 +6,6 @@ use Rattle.laws.proofs.Tests.{left_true, right_true}
 use Rattle.tree_rules.proofs.Answers.{accepted_answer, limit_answer, node_answer, rule_answer}
 use Rattle.tree_rules.proofs.Bounds.{transit_small, unacked_small}
 use Rattle.tree_rules.specs.Rules.{Send}
-use borrow.Author.Rules.{rules}
 use Rattle.tree_messages.proofs.send.Goals as goal
 
 pub returns-then-r-i : goal.returns-then-r-i

@@ -10,7 +10,6 @@ use Rattle.tree_rules.proofs.Answers.{accepted_answer, accepted_as, node_answer,
 use Rattle.tree_rules.proofs.Bounds.{acks_small}
 use Rattle.tree_rules.proofs.Facts.{take_engages, take_replies}
 use Rattle.tree_rules.specs.Rules.{Take}
-use borrow.Author.Rules.{rules}
 use Rattle.tree_messages.proofs.take.Goals as goal
 
 pub returns-then-r-i : goal.returns-then-r-i

@@ -2,7 +2,6 @@ use native.Mathlib.Omega.{arith}
 use mathlib.Core.Path.{◌∙◌, sym}
 use Rattle.decimal.proofs.Cases.{in_text}
 use Rattle.tree_text.proofs.Steps.{close_no, close_yes}
-use borrow.Author.Rules.{rules}
 use Rattle.tree_reader.proofs.close.Goals as goal
 
 pub returns-then-byte_at-ne41 : goal.returns-then-byte_at-ne41

@@ -1,5 +1,4 @@
 use borrow.Author.Tests.{eq-eqb, ne_eqb}
-use borrow.Author.Rules.{rules}
 use Rattle.tree_reader.proofs.end.Goals as goal
 
 pub returns-then-m-s : goal.returns-then-m-s

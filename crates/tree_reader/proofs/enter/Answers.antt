@@ -1,7 +1,6 @@
 use mathlib.Core.Path.{◌∙◌, sym, ap}
 use Rattle.tree_text.specs.Read.{entered}
 use Rattle.tree_text.proofs.Steps.{enter_wrong}
-use borrow.Author.Rules.{rules}
 use Rattle.tree_reader.proofs.enter.Goals as goal
 
 pub returns-in-Value : goal.returns-in-Value

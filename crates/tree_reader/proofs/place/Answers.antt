@@ -3,7 +3,6 @@ use Prim.Native.Nat.{ℕ}
 use lib.ListN.{set}
 use Rattle.tree_text.specs.declared.Reading.{Reading}
 use Rattle.refusal.specs.declared.Verdict.TheVariants.{Accepted}
-use borrow.Author.Rules.{rules}
 use Rattle.tree_reader.proofs.place.Goals as goal
 
 pub returns : goal.returns

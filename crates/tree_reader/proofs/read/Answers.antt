@@ -2,7 +2,6 @@ use native.Mathlib.Omega.{arith}
 use mathlib.Core.Path.{◌∙◌, sym, ap}
 use Rattle.tree_text.specs.Read.{end_of}
 use Rattle.tree_text.proofs.Theorems.{read_end, read_few, read_many}
-use borrow.Author.Rules.{rules}
 use Rattle.tree_reader.proofs.read.Goals as goal
 
 pub returns-then-n-eq0 : goal.returns-then-n-eq0

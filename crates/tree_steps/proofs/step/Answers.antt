@@ -4,7 +4,6 @@ use Rattle.tree_rules.proofs.Answers.{closed_answer, kind_answer}
 use Rattle.tree_rules.proofs.Theorems.{fields_unread}
 use Rattle.tree_rules.specs.Rules.{kind_of}
 use Rattle.tree_rules.specs.Soundness.{Open}
-use borrow.Author.Rules.{rules}
 use Rattle.tree_steps.proofs.step.Goals as goal
 
 pub returns-then-r : goal.returns-then-r

@@ -4,7 +4,6 @@ use mathlib.Core.Bool.{◌&&◌, not}
 use Prim.Native.Nat.{ℕ}
 use lib.Dec.{eqb}
 use Rattle.laws.proofs.Columns.{any_default}
-use borrow.Author.Rules.{rules}
 use Rattle.tree_writer.proofs.is_under.Goals as goal
 
 pub returns : goal.returns

@@ -4,7 +4,6 @@ use borrow.Author.Tests.{eq-eqb, ne_eqb}
 use Rattle.decimal.proofs.Decimal.{decimal_width}
 use Rattle.tree_text.specs.Text.{share}
 use Rattle.laws.proofs.Columns.{any_default}
-use borrow.Author.Rules.{rules}
 use Rattle.tree_writer.proofs.share_of.Goals as goal
 
 pub returns-then-e-i-eq-NO_ENGAGER : goal.returns-then-e-i-eq-NO_ENGAGER

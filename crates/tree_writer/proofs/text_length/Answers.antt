@@ -1,6 +1,6 @@
 use mathlib.Core.Path.{◌≡◌, ap}
 use native.Mathlib.Omega.{arith}
-use Prim.Native.Nat.{ℕ, ◌≤◌, ◌-◌, ◌*◌}
+use Prim.Native.Nat.{ℕ}
 use Rattle.laws.proofs.Sums.{sum_next, sum_none}
 use Rattle.laws.specs.Sums.{sum_to}
 use Rattle.tree_text.specs.Text.{share, length_of}

@@ -1,9 +1,7 @@
-use mathlib.Core.Path.{◌≡◌, ap}
-use native.Mathlib.Omega.{arith}
-use Prim.Native.Nat.{ℕ, ◌≤◌, ◌-◌, ◌*◌}
-use Rattle.laws.proofs.Sums.{sum_next, sum_none}
+use mathlib.Core.Path.{◌≡◌}
+use Prim.Native.Nat.{◌≤◌, ◌-◌, ◌*◌}
 use Rattle.laws.specs.Sums.{sum_to}
-use Rattle.tree_text.specs.Text.{share, length_of}
+use Rattle.tree_text.specs.Text.{share}
 use Rattle.tree_writer.proofs.text_length.Given as goal
 
 abbrev pub invariant-loop-i : goal.invariant-loop-i

@@ -1,5 +1,4 @@
 use native.Mathlib.Omega.{arith}
-use borrow.Author.Tests.{not-true, not-false}
 use mathlib.Core.Path.{◌≡◌, ◌∙◌, sym, ap}
 use mathlib.Core.Bool.{true}
 use Prim.Native.Nat.{◌≤◌}
@@ -13,7 +12,6 @@ use Rattle.tree_text.proofs.Answers.{fits, left_no, left_yes, short, told_no, to
 use Rattle.tree_text.proofs.Lengths.{tree_length}
 use Rattle.tree_text.proofs.Theorems.{sound_tree}
 use Rattle.tree.specs.View.{state}
-use borrow.Author.Rules.{rules}
 use Rattle.tree_writer.proofs.write.Goals as goal
 
 pub returns-then-not-is_sound : goal.returns-then-not-is_sound

@@ -1,4 +1,3 @@
-use borrow.Author.Rules.{rules}
 use mathlib.Core.Path.{◌∙◌}
 use Rattle.refusal.specs.Counts.{count_of}
 use Rattle.ring_rules.specs.State.{black_nodes}

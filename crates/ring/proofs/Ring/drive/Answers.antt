@@ -1,4 +1,3 @@
-use borrow.Author.Rules.{rules}
 use mathlib.Core.Path.{◌∙◌, ap, subst, sym}
 use Rattle.laws.proofs.Tests.{told_false, told_true}
 use Rattle.ring_rules.proofs.Driver.{drive_accepted, drive_closed, drive_over, drive_unsound}

@@ -1,4 +1,3 @@
-use borrow.Author.Rules.{rules}
 use mathlib.Core.Path.{◌∙◌, ap}
 use Rattle.ring_rules.specs.Soundness.{sound_test}
 use Rattle.ring.proofs.Ring.is_sound.Goals as goal

@@ -1,4 +1,3 @@
-use borrow.Author.Rules.{rules}
 use mathlib.Core.Path.{◌∙◌}
 use Rattle.table.proofs.Laws.{slots_test}
 use Rattle.table.proofs.Table.is_sound.Goals as goal

@@ -1,4 +1,3 @@
-use borrow.Author.Rules.{rules}
 use native.Mathlib.Omega.{arith}
 use Rattle.laws.proofs.Tests.{told_false, told_true}
 use Rattle.runs.specs.Runs.{Request}

@@ -1,4 +1,3 @@
-use borrow.Author.Rules.{rules}
 use mathlib.Core.Path.{◌∙◌, ap}
 use Rattle.tree_rules.specs.Soundness.{sound_test}
 use Rattle.tree.proofs.Tree.is_sound.Goals as goal

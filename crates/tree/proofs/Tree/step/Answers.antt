@@ -1,5 +1,3 @@
-use borrow.Author.Rules.{rules}
-use borrow.Author.Tests.{not-false, not-true}
 use mathlib.Core.Path.{◌∙◌, ap, subst, sym}
 use Rattle.tree_rules.proofs.Answers.{unsound_answer}
 use Rattle.tree_rules.proofs.Soundness.{sound_true}
