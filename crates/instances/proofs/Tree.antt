@@ -11,7 +11,6 @@ use Rattle.laws.proofs.Places.{all_at}
 use Rattle.laws.specs.Places.{all_to}
 use Rattle.laws.specs.Sums.{count_to, sum_to}
 use Rattle.runs.specs.Runs.{Accepts, Request, accepted_of, run_of}
-use Rattle.tree_rules.proofs.Accepted.{announces}
 use Rattle.tree_rules.proofs.Theorems.{sound_kept, sound_tested}
 use Rattle.tree_rules.specs.Answers.{verdict_of}
 use Rattle.tree_rules.specs.Rules.{conclusive, may_leave}
