@@ -1,4 +1,3 @@
-use borrow.Author.Rules.{rules}
 use native.Mathlib.Omega.{arith}
 use Rattle.log_state.proofs.Feeds.{fed_went}
 use Rattle.log_feed.proofs.go_table.Goals as goal

@@ -1,4 +1,3 @@
-use borrow.Author.Rules.{rules}
 use native.Mathlib.Omega.{arith}
 use Rattle.log_state.proofs.Feeds.{full_rest, held_rest}
 use Rattle.log_feed.proofs.hold_rest.Goals as goal

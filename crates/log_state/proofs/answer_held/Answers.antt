@@ -1,4 +1,3 @@
-use borrow.Author.Rules.{rules}
 use mathlib.Core.Path.{◌∙◌, ap, refl, subst}
 use native.Mathlib.Omega.{arith}
 use Rattle.log_beginning.specs.Open.{SoundStage, stage_by}

@@ -1,4 +1,3 @@
-use borrow.Author.Rules.{rules}
 use Rattle.log_state.proofs.is_decided.Goals as goal
 
 pub returns-in-Fresh : goal.returns-in-Fresh

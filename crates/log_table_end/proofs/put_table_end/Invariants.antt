@@ -1,8 +1,5 @@
-use borrow.Author.Rules.{rules}
-use Prim.Native.Nat.{◌-◌, ℕ}
-use mathlib.Core.Path.{◌≡◌, subst}
-use native.Mathlib.Omega.{arith}
-use Rattle.log_table_end.proofs.Laws.{Ended, none_ended, next_ended, slot_sound}
+use Prim.Native.Nat.{◌-◌}
+use Rattle.log_table_end.proofs.Laws.{Ended}
 use Rattle.log_table_end.proofs.put_table_end.Given as goal
 
 abbrev pub invariant-loop-u : goal.invariant-loop-u
