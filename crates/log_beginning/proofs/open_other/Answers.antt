@@ -4,7 +4,6 @@ use Rattle.update_forms.proofs.Held.{wrapped_flags}
 use Rattle.update_forms.specs.Read.{wrapped_at}
 use Rattle.update_forms.specs.declared.UpdateFirst.{UpdateFirst}
 use Rattle.log_beginning.proofs.Laws.{none_seen, other_kind, start_seen, tree_kind}
-use borrow.Author.Rules.{rules}
 use Rattle.log_beginning.proofs.open_other.Goals as goal
 
 pub open_update-requires : goal.open_update-requires

@@ -1,4 +1,3 @@
-use borrow.Author.Rules.{rules}
 use mathlib.Core.Path.{subst⁻¹}
 use Rattle.first_line.specs.declared.First.{First}
 use Rattle.first_line.proofs.Flags.{seen_flags}

@@ -4,7 +4,6 @@ use native.Mathlib.Omega.{arith}
 use Rattle.log_text.proofs.Texts.{answer_short}
 use Rattle.refusal.specs.declared.Verdict.TheVariants.{Accepted}
 use Rattle.log_beginning.proofs.Laws.{many_nodes_of, no_nodes_of, no_update, unknown_node_of, update_begins}
-use borrow.Author.Rules.{rules}
 use Rattle.log_beginning.proofs.open_update.Goals as goal
 
 pub returns-then-u-ge-UPDATES : goal.returns-then-u-ge-UPDATES

@@ -1,6 +1,5 @@
 use native.Mathlib.Omega.{arith}
 use Rattle.log_table.proofs.Laws.{added_out}
-use borrow.Author.Rules.{rules}
 use Rattle.log_table.proofs.add_moves.Goals as goal
 
 pub returns-else-u-lt-UPDATES : goal.returns-else-u-lt-UPDATES

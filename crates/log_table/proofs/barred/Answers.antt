@@ -3,7 +3,6 @@ use native.Mathlib.Omega.{arith}
 use mathlib.Core.Path.{sym}
 use Rattle.table_start.specs.Fixed.{fixed_in}
 use Rattle.log_table.proofs.Laws.{barred_many, barred_node, barred_none, barred_other, other_from}
-use borrow.Author.Rules.{rules}
 use Rattle.log_table.proofs.barred.Goals as goal
 
 pub returns-then-u-ge-UPDATES : goal.returns-then-u-ge-UPDATES

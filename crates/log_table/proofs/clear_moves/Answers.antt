@@ -1,7 +1,6 @@
 use native.Mathlib.Omega.{arith}
 use mathlib.Core.Path.{refl}
 use Rattle.log_table.proofs.Laws.{cleared}
-use borrow.Author.Rules.{rules}
 use Rattle.log_table.proofs.clear_moves.Goals as goal
 
 pub returns-then-u-lt-UPDATES : goal.returns-then-u-lt-UPDATES

@@ -3,7 +3,6 @@ use Prim.Native.Nat.{◌+◌}
 use Rattle.log_text.proofs.Texts.{answer_short}
 use Rattle.refusal.specs.declared.Refusal.TheVariants.{NotAForm}
 use Rattle.refusal.specs.declared.Verdict.TheVariants.{Refused}
-use borrow.Author.Rules.{rules}
 use Rattle.log_table.proofs.formless_line.Goals as goal
 
 pub put_answer-at-requires : goal.put_answer-at-requires

@@ -8,7 +8,6 @@ use Rattle.update_forms.proofs.Held.{wrapped_flags}
 use Rattle.update_forms.specs.Read.{wrapped_at}
 use Rattle.update_forms.specs.declared.UpdateFirst.{UpdateFirst}
 use Rattle.log_table.proofs.Laws.{answered_went, formless_answered, none_said, run_none, start_said}
-use borrow.Author.Rules.{rules}
 use Rattle.log_table.proofs.other_line.Goals as goal
 
 pub start_line-requires : goal.start_line-requires

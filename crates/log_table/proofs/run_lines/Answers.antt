@@ -1,14 +1,12 @@
-use Prim.Native.Nat.{◌-◌, ℕ}
+use Prim.Native.Nat.{ℕ}
 use borrow.Author.Tests.{ltb-false, ltb-true}
-use lib.ListN.{drop, length}
+use lib.ListN.{drop}
 use mathlib.Core.Bool.{false}
 use mathlib.Core.Path.{◌≡◌, refl, subst⁻¹}
 use native.Mathlib.Omega.{arith}
 use Rattle.log_lines.proofs.Ends.{none_left}
 use Rattle.log_rules.specs.Pieces.{cut, full, has_line}
-use Rattle.table_steps.specs.Memory.{memory}
 use Rattle.log_table.proofs.Laws.{run_fits, run_none, run_then}
-use Rattle.log_table.specs.Run.{TableWent}
 use Rattle.log_table.proofs.run_lines.Goals as goal
 
 pub loop-r-init : goal.loop-r-init

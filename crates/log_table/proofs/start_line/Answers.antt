@@ -3,7 +3,6 @@ use mathlib.Core.Path.{refl}
 use native.Mathlib.Omega.{arith}
 use Rattle.log_text.proofs.Texts.{answer_short}
 use Rattle.log_table.proofs.Laws.{start_answered}
-use borrow.Author.Rules.{rules}
 use Rattle.log_table.proofs.start_line.Goals as goal
 
 pub put_answer-at-requires : goal.put_answer-at-requires

@@ -7,7 +7,6 @@ use Rattle.table_start.proofs.Laws.{fixed_of}
 use Rattle.table_steps.specs.Memory.{memory}
 use Rattle.log_table.proofs.Laws.{barred_told, neither, start_told}
 use Rattle.log_table.specs.Run.{barred_table}
-use borrow.Author.Rules.{rules}
 use Rattle.log_table.proofs.start_update.Goals as goal
 
 pub returns-then-nodes-f : goal.returns-then-nodes-f

@@ -3,7 +3,6 @@ use mathlib.Core.Path.{refl}
 use native.Mathlib.Omega.{arith}
 use Rattle.log_text.proofs.Texts.{answer_short}
 use Rattle.log_table.proofs.Laws.{step_answered}
-use borrow.Author.Rules.{rules}
 use Rattle.log_table.proofs.step_line.Goals as goal
 
 pub add_moves-requires : goal.add_moves-requires

@@ -1,7 +1,6 @@
 use mathlib.Core.Path.{refl}
 use Rattle.table_columns.proofs.Laws.{lent_by}
 use Rattle.log_table.proofs.Laws.{fed_by}
-use borrow.Author.Rules.{rules}
 use Rattle.log_table.proofs.table_piece.Goals as goal
 
 pub run_lines-t-requires : goal.run_lines-t-requires

@@ -4,7 +4,6 @@ use Rattle.log_rules.proofs.InPlace.{table_ended}
 use Rattle.log_rules.specs.Answers.{table_told}
 use Rattle.update_forms.specs.Read.{wrapped_at}
 use Rattle.log_table.proofs.Laws.{answered_went, step_said}
-use borrow.Author.Rules.{rules}
 use Rattle.log_table.proofs.turn.Goals as goal
 
 pub step_line-requires : goal.step_line-requires

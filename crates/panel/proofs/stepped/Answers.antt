@@ -1,4 +1,3 @@
-use borrow.Author.Rules.{rules}
 use mathlib.Core.Path.{◌∙◌, ap, subst, sym}
 use Rattle.panel_rules.specs.Answers.{answer_of}
 use Rattle.panel_rules.specs.Soundness.{Sound}

@@ -1,4 +1,3 @@
-use borrow.Author.Rules.{rules}
 use Rattle.lent_panel.proofs.Panel.{entered_to}
 use Rattle.panel.specs.View.{answer}
 use Rattle.panel_export_enter.proofs.muzserlik_panel_enter_fields.Goals as goal

@@ -1,4 +1,3 @@
-use borrow.Author.Rules.{rules}
 use mathlib.Core.Bool.{◌&&◌}
 use Rattle.lent_panel.specs.Panel.{is_record}
 use Rattle.panel_fields.proofs.are_flags.Goals as goal

@@ -1,9 +1,6 @@
-use borrow.Author.Rules.{rules}
-use Prim.Native.Nat.{◌-◌, ◌≤◌, ℕ}
-use mathlib.Core.Path.{◌∙◌, ◌≡◌, ap, refl, sym}
-use native.Mathlib.Omega.{arith}
+use Prim.Native.Nat.{◌-◌, ◌≤◌}
+use mathlib.Core.Path.{◌≡◌}
 use Rattle.panel_rules.specs.State.{all_say_word}
-use Rattle.panel_marks.proofs.Laws.{say_next}
 use Rattle.panel_marks.proofs.all_say.Given as goal
 
 abbrev pub invariant-loop-i : goal.invariant-loop-i

@@ -2,7 +2,6 @@ use mathlib.Core.Bool.{false, true}
 use Rattle.panel_marks.proofs.Laws.{marks_by}
 use Rattle.laws.proofs.Tests.{told_false, told_true}
 use mathlib.Core.Path.{◌∙◌, sym}
-use borrow.Author.Rules.{rules}
 use Rattle.panel_marks.proofs.marks_fit.Goals as goal
 
 pub returns-then-not-old_from : goal.returns-then-not-old_from

@@ -1,8 +1,6 @@
-use borrow.Author.Rules.{rules}
 use Prim.Native.Nat.{◌-◌, ◌≤◌}
-use mathlib.Core.Path.{◌∙◌, ◌≡◌, ap, refl, sym}
-use native.Mathlib.Omega.{arith}
-use Rattle.panel_marks.proofs.Laws.{old_all, old_next, old_to}
+use mathlib.Core.Path.{◌≡◌}
+use Rattle.panel_marks.proofs.Laws.{old_to}
 use Rattle.panel_marks.proofs.old_from.Given as goal
 
 abbrev pub invariant-loop-i : goal.invariant-loop-i

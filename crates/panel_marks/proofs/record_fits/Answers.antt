@@ -1,5 +1,4 @@
 use mathlib.Core.Path.{◌∙◌}
-use borrow.Author.Rules.{rules}
 use Rattle.panel_marks.proofs.record_fits.Goals as goal
 
 pub returns-in-Old : goal.returns-in-Old

@@ -1,4 +1,3 @@
-use borrow.Author.Rules.{rules}
 use mathlib.Core.Path.{◌∙◌, sym}
 use Rattle.laws.proofs.Tests.{told_false, told_true}
 use Rattle.ring_check.proofs.Laws.{small_sum}

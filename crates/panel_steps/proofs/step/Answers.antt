@@ -1,4 +1,3 @@
-use borrow.Author.Rules.{rules}
 use mathlib.Core.Path.{◌∙◌}
 use Rattle.panel_rules.proofs.Theorems.{panel_unread}
 use Rattle.ring_rules.specs.Rules.{kind_of}

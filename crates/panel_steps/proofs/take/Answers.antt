@@ -1,4 +1,3 @@
-use borrow.Author.Rules.{rules}
 use Rattle.laws.proofs.Tests.{told_false, told_true}
 use Rattle.panel_rules.proofs.Answers.{by_verdict, word_bad, word_outside}
 use Rattle.refusal.specs.declared.Refusal.TheVariants.{JobWord, UnknownNode}

@@ -1,4 +1,3 @@
-use borrow.Author.Rules.{rules}
 use Rattle.ring_export_drive.proofs.reason_verdict.Goals as goal
 
 pub returns-in-Stopped : goal.returns-in-Stopped

@@ -1,4 +1,3 @@
-use borrow.Author.Rules.{rules}
 use Rattle.lent.proofs.Ring.{started}
 use Rattle.ring.specs.View.{answer}
 use Rattle.ring_export_start.proofs.muzserlik_ring_start_fields.Goals as goal

@@ -4,7 +4,6 @@ use Rattle.flag_bytes.specs.Flags.{byte_of}
 use Rattle.lent.specs.Ring.{truths_test}
 use Rattle.lent.specs.Table.{table_truths}
 use Rattle.table_rules.specs.Soundness.{sound_table_test}
-use borrow.Author.Rules.{rules}
 use Rattle.table_export_sound.proofs.muzserlik_table_is_sound_fields.Goals as goal
 
 pub returns : goal.returns

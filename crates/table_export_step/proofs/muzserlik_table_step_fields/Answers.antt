@@ -7,7 +7,6 @@ use Rattle.ring.specs.View.{state}
 use Rattle.table.specs.View.{answer}
 use Rattle.table_rules.specs.Answers.{answer_on, step_ask}
 use Rattle.table_rules.specs.Table.{Table}
-use borrow.Author.Rules.{rules}
 use Rattle.table_export_step.proofs.muzserlik_table_step_fields.Goals as goal
 
 pub returns-then-not-all_flags : goal.returns-then-not-all_flags

@@ -1,13 +1,10 @@
 use Prim.Native.Nat.{◌-◌, ◌≤◌, ℕ}
-use borrow.Author.Rules.{rules}
 use lib.Dec.{eqb}
 use lib.ListN.{get_or}
 use mathlib.Core.Bool.{Bool, ◌&&◌, ◌||◌}
 use mathlib.Core.List.{List, []}
-use mathlib.Core.Path.{◌∙◌, ◌≡◌, ap, ap₂, refl, sym}
-use native.Mathlib.Omega.{arith}
+use mathlib.Core.Path.{◌≡◌}
 use Rattle.flag_bytes.specs.Flags.{are_flags, is_flag}
-use Rattle.laws.proofs.Places.{all_next}
 use Rattle.laws.specs.Places.{all_to}
 use Rattle.table_fields.proofs.all_flags.Given as goal
 

@@ -1,10 +1,8 @@
-use Prim.Native.Nat.{◌-◌, ◌≤◌}
-use borrow.Author.Rules.{rules}
-use lib.ListN.{length, length-set}
+use lib.ListN.{length-set}
 use mathlib.Core.Path.{◌≡◌, refl}
 use native.Mathlib.Omega.{arith}
 use Rattle.lent.specs.Table.{lent_table}
-use Rattle.table_fields.proofs.Laws.{GatheredTo, gathered_all, gathered_first, gathered_next}
+use Rattle.table_fields.proofs.Laws.{gathered_all, gathered_first, gathered_next}
 use Rattle.table_fields.proofs.gathered.Goals as goal
 
 pub loop-v-init : goal.loop-v-init

@@ -1,10 +1,8 @@
 use Prim.Native.Nat.{◌-◌, ◌≤◌}
-use borrow.Author.Rules.{rules}
-use lib.ListN.{length, length-set}
-use mathlib.Core.Path.{◌≡◌, refl}
-use native.Mathlib.Omega.{arith}
+use lib.ListN.{length}
+use mathlib.Core.Path.{◌≡◌}
 use Rattle.lent.specs.Table.{lent_table}
-use Rattle.table_fields.proofs.Laws.{GatheredTo, gathered_all, gathered_first, gathered_next}
+use Rattle.table_fields.proofs.Laws.{GatheredTo}
 use Rattle.table_fields.proofs.gathered.Given as goal
 
 abbrev pub invariant-loop-v : goal.invariant-loop-v

@@ -1,7 +1,7 @@
 use mir.Facts.{to_z-of_z}
 use mir.Syntax.{w64}
 use mir.Val.{SFits}
-use borrow.Author.Rules.{rules, sfits_of}
+use borrow.Author.Rules.{sfits_of}
 use Rattle.table_fields.proofs.scatter.Goals as goal
 
 pub returns : goal.returns

@@ -1,4 +1,3 @@
-use borrow.Author.Rules.{rules}
 use Rattle.lent.proofs.Tree.{read_as}
 use Rattle.tree_export_read.proofs.muzserlik_tree_read_fields.Goals as goal
 

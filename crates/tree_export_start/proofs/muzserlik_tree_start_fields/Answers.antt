@@ -1,4 +1,3 @@
-use borrow.Author.Rules.{rules}
 use Rattle.lent.proofs.Tree.{tree_started}
 use Rattle.tree.specs.View.{answer}
 use Rattle.tree_export_start.proofs.muzserlik_tree_start_fields.Goals as goal

@@ -1,4 +1,3 @@
-use borrow.Author.Rules.{rules}
 use mathlib.Core.Path.{◌∙◌}
 use Rattle.laws.proofs.Tests.{told_false, told_true}
 use Rattle.lent.proofs.Tree.{tree_kind_same, tree_step_accepted, tree_step_refused, tree_step_unflagged}

@@ -1,4 +1,3 @@
-use borrow.Author.Rules.{rules}
 use mathlib.Core.Path.{◌∙◌}
 use Rattle.laws.proofs.Tests.{told_false, told_true}
 use Rattle.lent.specs.Tree.{tree_truths_test}

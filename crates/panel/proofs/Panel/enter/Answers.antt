@@ -1,4 +1,3 @@
-use borrow.Author.Rules.{rules}
 use mathlib.Core.Path.{ap}
 use Rattle.panel_rules.specs.Answers.{enter_of}
 use Rattle.panel_rules.specs.State.{entered}

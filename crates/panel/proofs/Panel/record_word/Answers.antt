@@ -1,4 +1,3 @@
-use borrow.Author.Rules.{rules}
 use mathlib.Core.Path.{◌∙◌}
 use Rattle.refusal.specs.Counts.{count_of}
 use Rattle.panel.proofs.Panel.record_word.Goals as goal

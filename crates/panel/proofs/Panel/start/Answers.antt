@@ -1,4 +1,3 @@
-use borrow.Author.Rules.{rules}
 use mathlib.Core.Path.{◌∙◌, ap}
 use Rattle.laws.proofs.Tests.{told_false, told_true}
 use Rattle.panel.proofs.Laws.{start_accepted, start_other, start_refused, start_unsound}

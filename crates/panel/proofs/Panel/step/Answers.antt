@@ -1,4 +1,3 @@
-use borrow.Author.Rules.{rules}
 use mathlib.Core.Path.{◌∙◌, ap, sym}
 use Rattle.panel_rules.proofs.Answers.{by_verdict, unsound_verdict}
 use Rattle.panel_rules.proofs.Soundness.{sound_true}
