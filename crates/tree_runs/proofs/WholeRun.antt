@@ -77,11 +77,11 @@ module _ (s : State) (o : Open s) (q : Quiet s) where
       go : ((k : Kind) × (i : ℕ) × Closing k × Rule s i 0 k) → (x : Request) × Closing (kind x) × Accepts tree s x
       go (Ack, i, acknowledging, r) = (request 4 i, acknowledging, accepts_kind (request 4 i) Ack refl r)
       go (Leave, i, leaving, r) = (request 5 i, leaving, accepts_kind (request 5 i) Leave refl r)
-      go (Send , i , x , r) = elim x [ ]
-      go (Take , i , x , r) = elim x [ ]
-      go (Idle , i , x , r) = elim x [ ]
-      go (Announce , i , x , r) = elim x [ ]
-      go (Unknown , i , x , r) = elim x [ ]
+      go (Send, i, x, r) = elim x [ ]
+      go (Take, i, x, r) = elim x [ ]
+      go (Idle, i, x, r) = elim x [ ]
+      go (Announce, i, x, r) = elim x [ ]
+      go (Unknown, i, x, r) = elim x [ ]
 
   announced_last : steps_left s ≡ 0 → (x : Request) → kind x ≡ Announce → Accepts tree s x
   announced_last z x e = accepts_kind x Announce e (announces (quiet_last s o.sound q z))
