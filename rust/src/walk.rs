@@ -135,7 +135,7 @@ fn times_generated(ring: &Ring, request: Request) -> usize {
     times
 }
 
-/// EWD998's TerminationDetected decides the announcement, and implies Termination.
+/// EWD998's terminationDetected decides the announcement, and implies Termination.
 fn check_announce(ring: &Ring, accepted: bool) {
     let token = ring.token;
     let detected = token.pos == 0
