@@ -3,7 +3,7 @@
  * is such a ring with two marks for each node and a record of its closing, a tree of up to 16 nodes by the rules of Dijkstra and Scholten.
  *
  * Link with libmuzserlik.a, which c/archive makes, on x86-64 Linux. Every function of the archive is proved to meet its contract; the contracts
- * are in the crates of their calls, crates/ring_export_step and so on. The inline functions of this header are tested only: they hand the fields of a
+ * are in crates/ring_c, crates/table_c, crates/panel_c and crates/tree_c. The inline functions of this header are tested only: they hand the fields of a
  * struct on, one by one, and put a pointer of their own where a length is 0.
  *
  * A call

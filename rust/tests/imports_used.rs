@@ -1,4 +1,4 @@
-//! Every name that a file of the crates imports occurs in it; one of logic, where code imports it, in a contract or a `#[tactic(..)]`.
+//! Every name that a file of the crates imports occurs in it; one of logic, where code imports it, in a contract, a ghost item or a `#[tactic(..)]`.
 
 use second::clauses::clauses;
 use std::collections::BTreeSet;
@@ -33,11 +33,11 @@ fn imported(line: &str) -> Option<impl Iterator<Item = &str>> {
     Some(names.split(", ").map(own))
 }
 
-/// The contracts of a text, and the lemmas that it names for their proofs.
+/// The contracts and ghost items of a text, and the lemmas that it names for their proofs.
 fn contracts(text: &str) -> String {
     let tactics = text.split("#[tactic(").skip(1);
     let tactics = tactics.filter_map(|part| part.split(")]").next());
-    clauses(text, &["ensures", "requires"]) + &tactics.collect::<String>()
+    clauses(text, &["ensures", "ghost", "requires"]) + &tactics.collect::<String>()
 }
 
 /// The words of a text, and of a word with dots its first part: the name of a module or a type.

@@ -2,16 +2,19 @@
 use Prim.Native.Nat.{◌%◌, ◌*◌, ◌+◌, ◌-◌, ◌/◌, ◌<◌, ◌^◌, ◌≤◌, suc, zero, ℕ}
 use borrow.Author.Tests.{eq-eqb, eqb-false, eqb-true, le-ltb, not-true}
 use lib.Dec.{eqb, ltb}
-use lib.ListN.{get_or}
+use lib.ListN.{drop, get_or, length}
 use lib.Pow.{shr_lt, shr-shr}
-use mathlib.Core.Bool.{Bool, ◌&&◌, ◌||◌, not, true}
+use mathlib.Core.Bool.{Bool, ◌&&◌, ◌||◌, and-true, and_assoc, not, true}
 use mathlib.Core.List.{List}
-use mathlib.Core.Path.{◌∙◌, ◌≡◌, ap, sym}
+use mathlib.Core.Path.{◌∙◌, ◌≡◌, ap, ap₂, sym}
 use native.Mathlib.Decide.{dec_lt}
-use native.Mathlib.Nat.{div-one, zero-div}
+use native.Mathlib.Nat.{add-zero, div-one, zero-div}
 use native.Mathlib.Numerals.{add-one}
 use native.Mathlib.Omega.{arith}
-use Rattle.laws.proofs.Places.{all_at, all_from}
+use Rattle.laws.proofs.Places.{all_at, all_from, none_from}
+use Rattle.std.specs.List.{list_all}
+use Rattle.std.proofs.lemmas.List.{drop_all}
+use Rattle.std.proofs.Math.Seq.{drop-cons}
 use Rattle.laws.proofs.Tests.{both, both_true, not_eq, right_true, same_test}
 use Rattle.color.specs.Between.{white_between}
 use Rattle.color.specs.Colors.{bit, is_black}
@@ -77,3 +80,33 @@ module _ (c : List ℕ) (n k s : ℕ) (fits : get_or c k 0 < 256) (from : n ≤ 
           zeros j h =
               ap (λ (x : ℕ). x % 2) (shr-shr (get_or c k 0) s j)
               ∙ from_white (s + j) (omega arith) (omega arith) (all_at (8 * k + 8) _ e (8 * k + (s + j)) (omega arith))
+
+-- the bytes from k on are looked at whole
+module _ (c : List ℕ) (n : ℕ) (bytes : (k : ℕ) → get_or c k 0 < 256) where
+  white_bytes : (m k : ℕ) → k + m ≡ length c → n ≤ 8 * k → (white_between c n (8 * k) && list_all (λ b. eqb b 0) (drop k c)) ≡ white_between c n (8 * length c)
+  white_bytes zero k e h =
+      let last : k ≡ length c = omega arith in
+      rw (drop_all k c (omega arith)) (and-true _ ∙ ap (λ (x : ℕ). white_between c n (8 * x)) last)
+  white_bytes (suc m) k e h =
+      let next : 8 * k + 8 ≡ 8 * suc k = omega arith in
+      let one : (white_between c n (8 * k) && eqb (get_or c k 0) 0) ≡ white_between c n (8 * suc k) =
+      ap₂ (λ (x y : ℕ). white_between c n x && eqb y 0) (sym (add-zero (8 * k))) (sym (div-one (get_or c k 0)))
+      ∙ white_byte c n k 0 (bytes k) (omega arith) (omega arith)
+      ∙ ap (white_between c n) next in
+      ap (λ (l : List ℕ). white_between c n (8 * k) && list_all (λ b. eqb b 0) l) (drop-cons c k 0 (omega arith))
+      ∙ sym (and_assoc (white_between c n (8 * k)) (eqb (get_or c k 0) 0) (list_all (λ b. eqb b 0) (drop (suc k) c)))
+      ∙ ap (λ (b : Bool). b && list_all (λ b. eqb b 0) (drop (suc k) c)) one
+      ∙ white_bytes m (suc k) (omega arith) (omega arith)
+
+  -- the first byte from its own bit on, and the others
+  pub white_parts : length c ≡ 12 → n < 96 → (eqb (get_or c (n / 8) 0 / 2 ^ (n % 8)) 0 && list_all (λ b. eqb b 0) (drop (n / 8 + 1) c)) ≡ white_between c n 96
+  white_parts e h =
+      let here : n ≡ 8 * (n / 8) + n % 8 = omega arith in
+      let next : 8 * (n / 8) + 8 ≡ 8 * (n / 8 + 1) = omega arith in
+      let first : eqb (get_or c (n / 8) 0 / 2 ^ (n % 8)) 0 ≡ white_between c n (8 * (n / 8 + 1)) =
+      ap (λ (b : Bool). b && eqb (get_or c (n / 8) 0 / 2 ^ (n % 8)) 0) (sym (none_from n _) ∙ ap (white_between c n) here)
+      ∙ white_byte c n (n / 8) (n % 8) (bytes (n / 8)) (omega arith) (omega arith)
+      ∙ ap (white_between c n) next in
+      ap (λ (b : Bool). b && list_all (λ b. eqb b 0) (drop (n / 8 + 1) c)) first
+      ∙ white_bytes (11 - n / 8) (n / 8 + 1) (omega arith) (omega arith)
+      ∙ ap (λ (x : ℕ). white_between c n (8 * x)) e

@@ -3,18 +3,17 @@ use mathlib.Core.Path.{◌≡◌, refl, sym, ap, ◌∙◌, subst}
 use mathlib.Core.Bool.{◌&&◌, Bool, cond, false, true}
 use mathlib.Core.Logic.{⊎_elim, ◌↔◌}
 use mathlib.Core.List.{List, [], ◌∷◌, ◌++◌, append_assoc, append-nil}
+use Rattle.std.specs.Prelude.{Option, Some, None}
 use Prim.Native.Nat.{ℕ, suc, ◌+◌, ◌-◌, ◌*◌, ◌/◌, ◌%◌, ◌≤◌, ◌<◌, min}
 use native.Mathlib.Omega.{arith}
 use native.Mathlib.Nat.{add-zero, not-suc-le-zero}
 use lib.ListN.{length, get_or, drop, drop_of_length-le}
 use lib.Dec.{leb, ltb, eqb}
 use borrow.Author.Tests.{le-leb, lt-leb, leb-true, leb-false, le-ltb, ltb-false, eq-eqb, ne_eqb}
-use Rattle.decimal.specs.declared.Num.{Num}
-use Rattle.decimal.specs.declared.Num.TheVariants.{Value, Wrong}
 use Rattle.decimal.specs.Text.{decimal}
-use Rattle.decimal.specs.Number.{digit_b, capped, stopped, scan_of, checked, number_at, kept_of, short_of}
+use Rattle.decimal.specs.Number.{digit_b, capped, read, scan_of, checked, number_at, kept_of, short_of}
 use Rattle.decimal.specs.Exact.{Stands, NumberAt, ShortAt}
-use Rattle.decimal.proofs.Cases.{both_left, both_right, both_off, split, rest, take_head, first_of, advance}
+use Rattle.decimal.proofs.Cases.{both_left, both_right, both_off, split, rest, take_head, first_of, advance, same_read}
 use Rattle.decimal.proofs.Decimal.{decimal_small, decimal_large, decimal_induct, decimal_some}
 
 -- 1. digits and their value
@@ -98,6 +97,9 @@ digits_text b d g z =
     (split b 49))
 
 -- 2. the scan of a text that is digits and then none
+abbrev stopped : ℕ → ℕ → ℕ × ℕ
+stopped v i = (v, i)
+
 scan_stop : (u : List ℕ) (v i : ℕ) → digit_b (get_or u 0 0) ≡ false → scan_of u v i ≡ stopped v i
 unfolding scan_of
 scan_stop [] v i h = refl
@@ -137,7 +139,7 @@ run_of_lem [] = record { digits = []; others = []; is = refl; all = tt; end = re
 run_of_lem (b ∷ l) = run_by b l (digit_b b) refl (run_of_lem l)
 
 -- 3. a number that is found stands there
-pub no_number : {A : Type 0} (n e : ℕ) → Wrong ≡ Value n e → A
+pub no_number : {A : Type 0} (n e : ℕ) → None ≡ read n e → A
 no_number n e h = let z : ◌≡◌ {A = ℕ} 0 1 = cc in absurd (let y : ⊥ = omega arith in y)
 
 nil_of : (d : List ℕ) → length d ≡ 0 → d ≡ []
@@ -152,14 +154,14 @@ lead x at e k is r a =
 checked_by : (s : List ℕ) (at : ℕ) (d u : List ℕ) → drop at s ≡ d ++ u → Digits d → digit_b (get_or u 0 0) ≡ false
     → (w i : ℕ) → w ≡ min (value 0 d) 100000 → i ≡ at + length d
     → (none led : Bool) → leb i at ≡ none → (eqb (get_or s at 0) 48 && ltb (at + 1) i) ≡ led
-    → (v e : ℕ) → cond none Wrong (cond led Wrong (Value w i)) ≡ Value v e → NumberAt s at v e
+    → (v e : ℕ) → cond none None (cond led None (read w i)) ≡ read v e → NumberAt s at v e
 checked_by s at d u t g k w i wi ii true led p q v e h = no_number v e h
 checked_by s at d u t g k w i wi ii false true p q v e h = no_number v e h
 checked_by s at [] u t g k w i wi ii false false p q v e h = absurd (let y : ⊥ = omega (arith, leb-false i at p) in y)
 checked_by s at (b ∷ d) u t g k w i wi ii false false p q v e h =
     let th = take_head s at b (d ++ u) t in
-    let wv : w ≡ v = cc in
-    let ie : i ≡ e = cc in
+    let wv : w ≡ v = (same_read h).0 in
+    let ie : i ≡ e = (same_read h).1 in
     let z : b ≡ 48 → d ≡ [] = λ is. nil_of d (lead (get_or s at 0) at i (length d) (th.0 ∙ is) q ii) in
     let text : b ∷ d ≡ decimal (value 0 (b ∷ d)) = digits_text b d g z in
     let ends : e ≡ at + length (b ∷ d) = sym ie ∙ ii in
@@ -177,13 +179,13 @@ number_run : (s : List ℕ) (at : ℕ) → (r : Run (drop at s))
     → scan_of (drop at s) 0 at ≡ stopped (min (value 0 r.digits) 100000) (at + length r.digits)
 number_run s at r = ap (λ (l : List ℕ). scan_of l 0 at) r.is ∙ scan_run r.digits r.others 0 at r.all r.end
 
-pub number_sound : (s : List ℕ) (at v e : ℕ) → number_at s at ≡ Value v e → NumberAt s at v e
+pub number_sound : (s : List ℕ) (at v e : ℕ) → number_at s at ≡ read v e → NumberAt s at v e
 unfolding number_at checked
 number_sound s at v e h =
     let r = run_of_lem (drop at s) in
     let w = min (value 0 r.digits) 100000 in
     let i = at + length r.digits in
-    let h2 : checked (get_or s at 0) at (stopped w i) ≡ Value v e = ap (checked (get_or s at 0) at) (sym (number_run s at r)) ∙ h in
+    let h2 : checked (get_or s at 0) at (stopped w i) ≡ read v e = ap (checked (get_or s at 0) at) (sym (number_run s at r)) ∙ h in
     checked_by s at r.digits r.others r.is r.all r.end w i refl refl
     (leb i at) (eqb (get_or s at 0) 48 && ltb (at + 1) i) refl refl v e h2
 
@@ -214,7 +216,7 @@ not_led s at n u h =
     (split n 10)
 
 pub number_found : (s : List ℕ) (at n : ℕ) (u : List ℕ) → drop at s ≡ decimal n ++ u → digit_b (get_or u 0 0) ≡ false
-    → number_at s at ≡ Value (min n 100000) (at + length (decimal n))
+    → number_at s at ≡ read (min n 100000) (at + length (decimal n))
 unfolding number_at checked
 number_found s at n u p k =
     let some : at < at + length (decimal n) = omega (arith, decimal_some n) in
@@ -228,28 +230,28 @@ number_found s at n u p k =
 pub after : (s : List ℕ) (e : ℕ) → digit_b (get_or s e 0) ≡ false → digit_b (get_or (drop e s) 0 0) ≡ false
 after s e h = ap digit_b (sym (first_of s (drop e s) e refl)) ∙ h
 
-number_back : (s : List ℕ) (at v e : ℕ) → NumberAt s at v e → number_at s at ≡ Value v e
+number_back : (s : List ℕ) (at v e : ℕ) → NumberAt s at v e → number_at s at ≡ read v e
 number_back s at v e (n, st, val) =
     number_found s at n (drop e s) st.text (after s e st.last)
-    ∙ (ap (λ (x : ℕ). Value x (at + length (decimal n))) (sym val) ∙ ap (Value v) (sym st.ends))
+    ∙ (ap (λ (x : ℕ). read x (at + length (decimal n))) (sym val) ∙ ap (read v) (sym st.ends))
 
-pub number_exact : (s : List ℕ) (at v e : ℕ) → (number_at s at ≡ Value v e) ↔ NumberAt s at v e
+pub number_exact : (s : List ℕ) (at v e : ℕ) → (number_at s at ≡ read v e) ↔ NumberAt s at v e
 number_exact s at v e = (number_sound s at v e, number_back s at v e)
 
 -- what is held at 100000 is compared with a bound as the number itself
 pub cap_below : (n most : ℕ) → most ≤ 100000 → (min n 100000 < most) ↔ (n < most)
 cap_below n most h = (λ k. omega arith, λ k. omega arith)
 
-kept_by : (w i v e : ℕ) (t : Bool) → ltb 99999 w ≡ t → cond t Wrong (Value w i) ≡ Value v e → (Value w i ≡ Value v e) × (v ≤ 99999)
+kept_by : (w i v e : ℕ) (t : Bool) → ltb 99999 w ≡ t → cond t None (read w i) ≡ read v e → (read w i ≡ read v e) × (v ≤ 99999)
 kept_by w i v e true p h = no_number v e h
-kept_by w i v e false p h = (h, let wv : w ≡ v = cc in omega (arith, ltb-false 99999 w p))
+kept_by w i v e false p h = (h, let wv : w ≡ v = (same_read h).0 in omega (arith, ltb-false 99999 w p))
 
-kept_sound : (m : Num) (v e : ℕ) → kept_of m ≡ Value v e → (m ≡ Value v e) × (v ≤ 99999)
+kept_sound : (m : Option (ℕ × ℕ)) (v e : ℕ) → kept_of m ≡ read v e → (m ≡ read v e) × (v ≤ 99999)
 unfolding kept_of
-kept_sound (Value w i) v e h = kept_by w i v e (ltb 99999 w) refl h
-kept_sound Wrong v e h = no_number v e h
+kept_sound (Some (w, i)) v e h = kept_by w i v e (ltb 99999 w) refl h
+kept_sound None v e h = no_number v e h
 
-pub short_sound : (s : List ℕ) (at n e : ℕ) → short_of s at ≡ Value n e → ShortAt s at n e
+pub short_sound : (s : List ℕ) (at n e : ℕ) → short_of s at ≡ read n e → ShortAt s at n e
 short_sound s at n e h =
     let k = kept_sound (number_at s at) n e h in
     let r = number_sound s at n e k.0 in
@@ -258,19 +260,19 @@ short_sound s at n e h =
 
 -- the number is found, and what follows it is what is left
 pub short_found : (s : List ℕ) (at n : ℕ) (u : List ℕ) → n ≤ 99999 → drop at s ≡ decimal n ++ u → digit_b (get_or u 0 0) ≡ false
-    → (short_of s at ≡ Value n (at + length (decimal n))) × (drop (at + length (decimal n)) s ≡ u)
+    → (short_of s at ≡ read n (at + length (decimal n))) × (drop (at + length (decimal n)) s ≡ u)
 unfolding kept_of
 short_found s at n u h p k =
     let c : min n 100000 ≡ n = omega arith in
-    let f : number_at s at ≡ Value n (at + length (decimal n)) =
-    number_found s at n u p k ∙ ap (λ (x : ℕ). Value x (at + length (decimal n))) c in
+    let f : number_at s at ≡ read n (at + length (decimal n)) =
+    number_found s at n u p k ∙ ap (λ (x : ℕ). read x (at + length (decimal n))) c in
     (rw (f, le-ltb 99999 n h), advance s (decimal n) u at p)
 
-short_back : (s : List ℕ) (at n e : ℕ) → ShortAt s at n e → short_of s at ≡ Value n e
+short_back : (s : List ℕ) (at n e : ℕ) → ShortAt s at n e → short_of s at ≡ read n e
 short_back s at n e (st, h) =
-    (short_found s at n (drop e s) h st.text (after s e st.last)).0 ∙ ap (Value n) (sym st.ends)
+    (short_found s at n (drop e s) h st.text (after s e st.last)).0 ∙ ap (read n) (sym st.ends)
 
-pub short_exact : (s : List ℕ) (at n e : ℕ) → (short_of s at ≡ Value n e) ↔ ShortAt s at n e
+pub short_exact : (s : List ℕ) (at n e : ℕ) → (short_of s at ≡ read n e) ↔ ShortAt s at n e
 short_exact s at n e = (short_sound s at n e, short_back s at n e)
 
 -- 6. the steps of the scan, as the code goes

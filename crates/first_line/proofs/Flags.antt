@@ -1,4 +1,5 @@
 -- The start flags that a first line gives. Assumes nothing.
+use Rattle.std.specs.Prelude.{Some, None}
 use Prim.Native.Nat.{◌≤◌, ℕ}
 use lib.ListN.{get_or-replicate, length-replicate, replicate}
 use mathlib.Core.Bool.{Bool, false, true}
@@ -6,10 +7,12 @@ use mathlib.Core.List.{List}
 use mathlib.Core.Path.{◌≡◌, refl, subst⁻¹}
 use native.Mathlib.Omega.{arith}
 use Rattle.forms.specs.Form.{SmallForm}
-use Rattle.forms.specs.Read.{Read, other, read}
+use Rattle.forms.specs.Read.{Read}
 use Rattle.first_line.proofs.Meaning.{rings_mean}
 use Rattle.first_line.proofs.Opens.{first_exact}
 use Rattle.first_line.specs.Meaning.{Flags, flag_byte, named}
+use Rattle.first_line.specs.declared.First.{First}
+use Rattle.first_line.specs.declared.First.TheVariants.{Ring, Tree}
 use Rattle.first_line.specs.Read.{first_at}
 use Rattle.first_line.specs.Start as starts
 
@@ -32,17 +35,29 @@ zero_flags = same_flags 0 (omega arith)
 pub one_flags : Flags starts.ones
 one_flags = same_flags 1 (omega arith)
 
-pub start_flags : (f : starts.Start) (e : ℕ) → SmallForm (starts.start_form f) → Flags (starts.seen f e).flags
-start_flags (starts.bare n) e v = one_flags
-start_flags (starts.tree n root) e v = zero_flags
-start_flags (starts.lists n a b) e v = record {
-  places = (rings_mean.both n a b e v.1 v.2).many;
-  small = λ i h. subst⁻¹ (λ (x : ℕ). x ≤ 3) ((rings_mean.both n a b e v.1 v.2).flag i h h) (flag_small (named a i) (named b i));
+pub lists_flags : (n : ℕ) (a b : List ℕ) → SmallForm (starts.start_form (starts.lists n a b)) → Flags (starts.lists_start n a b).flags
+lists_flags n a b v = record {
+  places = (rings_mean.both n a b v.1 v.2).many;
+  small = λ i h. subst⁻¹ (λ (x : ℕ). x ≤ 3) ((rings_mean.both n a b v.1 v.2).flag i h h) (flag_small (named a i) (named b i));
 }
 
-pub seen_flags : (l : List ℕ) (at : ℕ) → Flags (starts.seen_of (first_at l at)).flags
+-- the flags of a ring that was seen
+abbrev pub FirstFlags : First → Type 0
+FirstFlags (Ring r) = Flags r.flags
+FirstFlags (Tree n root) = Unit {0}
+
+abbrev pub ReadFlags : Read First → Type 0
+ReadFlags (Some (f, e)) = FirstFlags f
+ReadFlags None = Unit {0}
+
+pub start_flags : (f : starts.Start) → SmallForm (starts.start_form f) → FirstFlags (starts.seen f)
+start_flags (starts.bare n) v = one_flags
+start_flags (starts.tree n root) v = tt
+start_flags (starts.lists n a b) v = lists_flags n a b v
+
+pub seen_flags : (l : List ℕ) (at : ℕ) → ReadFlags (starts.seen_of (first_at l at))
 seen_flags l at = go (first_at l at) refl
   where
-    go : (r : Read starts.Start) → first_at l at ≡ r → Flags (starts.seen_of r).flags
-    go other p = zero_flags
-    go (read f e) p = start_flags f e ((first_exact l at f e).0 p).0.1.0
+    go : (r : Read starts.Start) → first_at l at ≡ r → ReadFlags (starts.seen_of r)
+    go None p = tt
+    go (Some (f, e)) p = start_flags f ((first_exact l at f e).0 p).0.1.0

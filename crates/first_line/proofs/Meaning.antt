@@ -13,7 +13,7 @@ use native.Mathlib.Decide.{ℕ_discrete}
 use borrow.Author.Tests.{lt-ltb, eq-eqb, ne_eqb, eqb-true, eqb-false}
 use Rattle.decimal.specs.Number.{number_limit}
 use Rattle.forms.specs.Form.{Ascending}
-use Rattle.first_line.specs.declared.First.{First}
+use Rattle.first_line.specs.declared.RingStart.{RingStart}
 use Rattle.first_line.specs.Start.{zeros, flagged, flag_all, top_of}
 use Rattle.first_line.specs.Meaning.{named, nodes_from, every_node, Below, flag_byte, Means}
 use Rattle.first_line.specs.Theorems.{RingsMean}
@@ -131,12 +131,12 @@ every_ascends n h = from_ascends n 0 (omega arith)
 -- 4. the answer to a ring line
 pub rings_mean : RingsMean
 rings_mean = record {
-  both = λ n a b e ha hb. record {
+  both = λ n a b ha hb. record {
     many = all_length 2 b (flag_all 1 a zeros) ∙ (all_length 1 a zeros ∙ length-replicate {A = ℕ} 96 0);
     flag = λ i _ h. flag_mean a b i h ha hb;
     most = top_mean a b;
   };
-  neither = λ n e. record {
+  neither = λ n. record {
     many = length-replicate {A = ℕ} 96 1;
     flag = λ i h k. get_or-replicate 96 i 1 0 k ∙ sym (ap (λ (t : Bool). flag_byte t false) (named_every n i h));
     most = λ m. (λ h. ((every_below n m).0 h, tt), λ b. (every_below n m).1 b.0);
@@ -144,5 +144,5 @@ rings_mean = record {
 }
 
 -- as far as the nodes of the ring go
-pub nodes_mean : {a b : List ℕ} {r : First} (n : ℕ) → Means 96 a b r → Means n a b r
+pub nodes_mean : {a b : List ℕ} {r : RingStart} (n : ℕ) → Means 96 a b r → Means n a b r
 nodes_mean n m = record { many = m.many; flag = λ i _ h. m.flag i h h; most = m.most }

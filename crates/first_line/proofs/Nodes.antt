@@ -1,4 +1,5 @@
 -- The list of nodes: the steps of its reader, and that it finds exactly the list that stands there. Assumes nothing.
+use Rattle.std.specs.Prelude.{Some, None}
 use mathlib.Core.Path.{◌≡◌, refl, sym, ap, ◌∙◌}
 use mathlib.Core.Bool.{Bool, cond, false, true}
 use mathlib.Core.List.{List, [], ◌∷◌, ◌++◌, append_assoc}
@@ -7,18 +8,16 @@ use native.Mathlib.Omega.{arith}
 use lib.ListN.{length, get_or, drop, length-drop, length-append}
 use lib.Dec.{ltb, eqb}
 use borrow.Author.Tests.{eq-eqb, ne_eqb, lt-ltb, le-ltb, ltb-false}
-use Rattle.decimal.specs.declared.Num.{Num}
-use Rattle.decimal.specs.declared.Num.TheVariants.{Value, Wrong}
 use Rattle.decimal.specs.Bytes.{bytes}
 use Rattle.decimal.specs.Text.{decimal}
 use Rattle.decimal.specs.Number.{digit_b}
 use Rattle.decimal.proofs.Cases.{take_head, first_of}
 use Rattle.forms.specs.Form.{spaced_numbers, Small, Ascending}
-use Rattle.forms.specs.Read.{spaced_of, Read, read, other}
+use Rattle.forms.specs.Read.{spaced_of, Read, read}
 use Rattle.forms.proofs.Arguments.{spaced_sound, spaced_found}
 use Rattle.first_line.specs.declared.Marks.{Marks}
 use Rattle.first_line.specs.Start.{flagged}
-use Rattle.first_line.specs.Read.{cons_of, entry_of, entries_of, entries_at, no_marks, marks_of}
+use Rattle.first_line.specs.Read.{cons_of, entry_of, entries_of, entries_at, marks_of}
 
 -- 1. the steps of `entries_of`
 module _ (s : List ℕ) (low at fuel : ℕ) (some : 0 < fuel) where
@@ -35,46 +34,46 @@ module _ (s : List ℕ) (low at fuel : ℕ) (some : 0 < fuel) where
       let e : entries_of fuel s low at ≡ entries_of (suc (fuel - 1)) s low at = ap (λ (f : ℕ). entries_of f s low at) z in
       rw (eq-eqb (get_or s at 0) 32 b) at e
 
-  wrong_entry : get_or s at 0 ≡ 32 → spaced_of s at ≡ Wrong → entries_of fuel s low at ≡ other
+  wrong_entry : get_or s at 0 ≡ 32 → spaced_of s at ≡ None → entries_of fuel s low at ≡ None
   unfolding entry_of
   wrong_entry b m = rw m at (space b)
 
-  low_entry : get_or s at 0 ≡ 32 → (k p : ℕ) → spaced_of s at ≡ Value k p → k < low → entries_of fuel s low at ≡ other
+  low_entry : get_or s at 0 ≡ 32 → (k p : ℕ) → spaced_of s at ≡ read k p → k < low → entries_of fuel s low at ≡ None
   unfolding entry_of
   low_entry b k p m h = rw (m, lt-ltb k low h) at (space b)
 
-  one_entry : get_or s at 0 ≡ 32 → (k p : ℕ) → spaced_of s at ≡ Value k p → low ≤ k
+  one_entry : get_or s at 0 ≡ 32 → (k p : ℕ) → spaced_of s at ≡ read k p → low ≤ k
       → entries_of fuel s low at ≡ cons_of k (entries_of (fuel - 1) s (k + 1) p)
   unfolding entry_of
   one_entry b k p m h = rw (m, le-ltb k low h) at (space b)
 
 -- 2. the code's loop: what is left of the list gives the whole answer
-pub record Left (s : List ℕ) (bit : ℕ) (flags : List ℕ) (top low at : ℕ) (whole : Marks) : Type 0 where
+pub record Left (s : List ℕ) (bit : ℕ) (flags : List ℕ) (top low at : ℕ) (whole : Read Marks) : Type 0 where
   pub fuel : ℕ
   pub some : 0 < fuel
   pub enough : length s < at + fuel
-  pub same : marks_of bit flags top (entries_of fuel s low at) ≡ whole
+  pub same : marks_of bit (record { flags = flags; top = top }) (entries_of fuel s low at) ≡ whole
 
-pub left_all : (s : List ℕ) (bit : ℕ) (flags : List ℕ) (top at : ℕ) → Left s bit flags top 0 at (marks_of bit flags top (entries_at s at))
-left_all s bit flags top at = record { fuel = length s + 1; some = omega arith; enough = omega arith; same = refl }
+pub left_all : (s : List ℕ) (bit : ℕ) (m : Marks) (at : ℕ) → Left s bit m.flags m.top 0 at (marks_of bit m (entries_at s at))
+left_all s bit m at = record { fuel = length s + 1; some = omega arith; enough = omega arith; same = refl }
 
 marks_cons : (bit : ℕ) (flags : List ℕ) (top k : ℕ) (r : Read (List ℕ))
-    → marks_of bit (flagged bit k flags) (max top (k + 1)) r ≡ marks_of bit flags top (cons_of k r)
-marks_cons bit flags top k (read ks e) = refl
-marks_cons bit flags top k other = refl
+    → marks_of bit (record { flags = flagged bit k flags; top = max top (k + 1) }) r ≡ marks_of bit (record { flags = flags; top = top }) (cons_of k r)
+marks_cons bit flags top k (Some (ks, e)) = refl
+marks_cons bit flags top k None = refl
 
-module _ {s : List ℕ} {bit : ℕ} {flags : List ℕ} {top low at : ℕ} {whole : Marks} (l : Left s bit flags top low at whole) where
-  pub left_end : (get_or s at 0 ≡ 32 → ⊥) → record { flags = flags; top = top; at = at; good = true } ≡ whole
-  left_end b = ap (marks_of bit flags top) (sym (no_space s low at l.fuel l.some b)) ∙ l.same
+module _ {s : List ℕ} {bit : ℕ} {flags : List ℕ} {top low at : ℕ} {whole : Read Marks} (l : Left s bit flags top low at whole) where
+  pub left_end : (get_or s at 0 ≡ 32 → ⊥) → read (record { flags = flags; top = top }) at ≡ whole
+  left_end b = ap (marks_of bit (record { flags = flags; top = top })) (sym (no_space s low at l.fuel l.some b)) ∙ l.same
 
   module _ (b : get_or s at 0 ≡ 32) where
-    pub left_wrong : spaced_of s at ≡ Wrong → no_marks ≡ whole
-    left_wrong m = ap (marks_of bit flags top) (sym (wrong_entry s low at l.fuel l.some b m)) ∙ l.same
+    pub left_wrong : spaced_of s at ≡ None → None ≡ whole
+    left_wrong m = ap (marks_of bit (record { flags = flags; top = top })) (sym (wrong_entry s low at l.fuel l.some b m)) ∙ l.same
 
-    pub left_low : {k p : ℕ} → spaced_of s at ≡ Value k p → k < low → no_marks ≡ whole
-    left_low {k} {p} m h = ap (marks_of bit flags top) (sym (low_entry s low at l.fuel l.some b k p m h)) ∙ l.same
+    pub left_low : {k p : ℕ} → spaced_of s at ≡ read k p → k < low → None ≡ whole
+    left_low {k} {p} m h = ap (marks_of bit (record { flags = flags; top = top })) (sym (low_entry s low at l.fuel l.some b k p m h)) ∙ l.same
 
-    pub left_more : {k p : ℕ} → at < length s → spaced_of s at ≡ Value k p → low ≤ k
+    pub left_more : {k p : ℕ} → at < length s → spaced_of s at ≡ read k p → low ≤ k
         → Left s bit (flagged bit k flags) (max top (k + 1)) (k + 1) p whole
     left_more {k} {p} n m h =
         let r = spaced_sound s at k p m in
@@ -84,18 +83,18 @@ module _ {s : List ℕ} {bit : ℕ} {flags : List ℕ} {top low at : ℕ} {whole
           enough = omega (arith, l.enough, r.2);
           same =
               marks_cons bit flags top k (entries_of (l.fuel - 1) s (k + 1) p)
-              ∙ (ap (marks_of bit flags top) (sym (one_entry s low at l.fuel l.some b k p m h)) ∙ l.same);
+              ∙ (ap (marks_of bit (record { flags = flags; top = top })) (sym (one_entry s low at l.fuel l.some b k p m h)) ∙ l.same);
         }
 
 -- 3. what is read stands there
 abbrev pub Listed : List ℕ → ℕ → ℕ → Read (List ℕ) → Type 0
-Listed s low at (read ks e) = Ascending low ks × (drop at s ≡ spaced_numbers ks ++ drop e s)
-Listed s low at other = Unit {0}
+Listed s low at (Some (ks, e)) = Ascending low ks × (drop at s ≡ spaced_numbers ks ++ drop e s)
+Listed s low at None = Unit {0}
 
 cons_listed : (s : List ℕ) (low at k p : ℕ) → low ≤ k → Small k → drop at s ≡ bytes " " ++ (decimal k ++ drop p s)
     → (r : Read (List ℕ)) → Listed s (k + 1) p r → Listed s low at (cons_of k r)
-cons_listed s low at k p lo small t other h = tt
-cons_listed s low at k p lo small t (read ks e) h = (
+cons_listed s low at k p lo small t None h = tt
+cons_listed s low at k p lo small t (Some (ks, e)) h = (
   (lo, small, h.0),
   t
       ∙ ap (λ (l : List ℕ). 32 ∷ l)
@@ -103,15 +102,15 @@ cons_listed s low at k p lo small t (read ks e) h = (
 )
 
 low_by : (s : List ℕ) (low at k p : ℕ) → Small k → drop at s ≡ bytes " " ++ (decimal k ++ drop p s)
-    → (r : Read (List ℕ)) → Listed s (k + 1) p r → (t : Bool) → ltb k low ≡ t → Listed s low at (cond t other (cons_of k r))
+    → (r : Read (List ℕ)) → Listed s (k + 1) p r → (t : Bool) → ltb k low ≡ t → Listed s low at (cond t None (cons_of k r))
 low_by s low at k p small e r h true q = tt
 low_by s low at k p small e r h false q = cons_listed s low at k p (ltb-false k low q) small e r h
 
 entry_by : (s : List ℕ) (low at : ℕ) (others : ℕ → ℕ → Read (List ℕ)) → ((l i : ℕ) → Listed s l i (others l i))
-    → (m : Num) → spaced_of s at ≡ m → Listed s low at (entry_of others low m)
+    → (m : Read ℕ) → spaced_of s at ≡ m → Listed s low at (entry_of others low m)
 unfolding entry_of
-entry_by s low at others ih Wrong e = tt
-entry_by s low at others ih (Value k p) e =
+entry_by s low at others ih None e = tt
+entry_by s low at others ih (Some (k, p)) e =
     let r = spaced_sound s at k p e in
     low_by s low at k p r.1 r.0 (others (k + 1) p) (ih (k + 1) p) (ltb k low) refl
 

@@ -1,10 +1,12 @@
 -- No two valid forms share a line. Assumes nothing.
+use Rattle.std.specs.Prelude.{None}
 use mathlib.Core.Path.{◌≡◌, refl, sym, ap, ◌∙◌}
 use mathlib.Core.List.{List, ◌∷◌, ◌++◌, append_assoc}
 use Prim.Native.Nat.{ℕ, ◌+◌}
 use native.Mathlib.Omega.{arith}
 use lib.ListN.{length, take, drop, length-append}
 use lib.Seq.{take-append_seam, take_at}
+use Rattle.decimal.proofs.Cases.{same_read}
 use Rattle.decimal.specs.Bytes.{bytes}
 use Rattle.decimal.specs.Text.{decimal}
 use Rattle.decimal.specs.Word.{starts}
@@ -13,7 +15,7 @@ use Rattle.forms.specs.declared.RingStep.TheVariants as ring
 use Rattle.forms.specs.declared.TreeStep.{TreeStep}
 use Rattle.forms.specs.declared.TreeStep.TheVariants as tree
 use Rattle.forms.specs.Form.{Form, bare_ring, ring_with, tree_of, send, take_one, take_with, idle, probe, pass, ack, leave, announce, update, written, form_text, Small, SmallForm, ring_form, tree_form}
-use Rattle.forms.specs.Read.{Read, other, read_by, ring_shapes, tree_shapes}
+use Rattle.forms.specs.Read.{Read, read_by, ring_shapes, tree_shapes}
 use Rattle.forms.proofs.Arguments.{spaced_found}
 use Rattle.forms.proofs.Lines.{form_line}
 use Rattle.forms.proofs.Reading.{no_read, Reader, line_once}
@@ -60,12 +62,12 @@ sort_of (update u f) = inside u (sort_of f)
 
 -- a form whose line a reader reads, and one whose line it does not
 apart : {A B : Type 0} {form : A → Form} {reader : List ℕ → ℕ → Read A} → Reader form reader
-    → (a : A) (g : Form) → SmallForm (form a) → reader (form_text g) 0 ≡ other → form_text (form a) ≡ form_text g → B
+    → (a : A) (g : Form) → SmallForm (form a) → reader (form_text g) 0 ≡ None → form_text (form a) ≡ form_text g → B
 apart {form = form} {reader} R a g v h e =
     no_read (sym (ap (λ (l : List ℕ). reader l 0) e ∙ h) ∙ R.found (form_text (form a)) 0 a (bytes "\n") v refl)
 
 -- no step is a first line
-not_first : (f : RingStep) → start_at (form_text (ring_form f)) 0 ≡ other
+not_first : (f : RingStep) → start_at (form_text (ring_form f)) 0 ≡ None
 unfolding start_at starts
 not_first (ring.Send i j) = refl
 not_first (ring.TakeOne i) = refl
@@ -75,27 +77,27 @@ not_first ring.Probe = refl
 not_first (ring.Pass i) = refl
 not_first ring.Announce = refl
 
-only_not_first : (f : Only) → start_at (form_text (only_form f)) 0 ≡ other
+only_not_first : (f : Only) → start_at (form_text (only_form f)) 0 ≡ None
 unfolding start_at starts only_tree
 only_not_first (acks i) = refl
 only_not_first (leaves i) = refl
 
 -- no step of the ring is one that only the tree has
-not_ring : (f : Only) → read_by ring_shapes (form_text (only_form f)) 0 ≡ other
+not_ring : (f : Only) → read_by ring_shapes (form_text (only_form f)) 0 ≡ None
 unfolding read_by starts only_tree
 not_ring (acks i) = refl
 not_ring (leaves i) = refl
 
 -- no update is another form
-update_not_first : (u : ℕ) (f : Form) → start_at (form_text (update u f)) 0 ≡ other
+update_not_first : (u : ℕ) (f : Form) → start_at (form_text (update u f)) 0 ≡ None
 unfolding start_at starts
 update_not_first u f = refl
 
-update_not_ring : (u : ℕ) (f : Form) → read_by ring_shapes (form_text (update u f)) 0 ≡ other
+update_not_ring : (u : ℕ) (f : Form) → read_by ring_shapes (form_text (update u f)) 0 ≡ None
 unfolding read_by starts
 update_not_ring u f = refl
 
-update_not_tree : (u : ℕ) (f : Form) → read_by tree_shapes (form_text (update u f)) 0 ≡ other
+update_not_tree : (u : ℕ) (f : Form) → read_by tree_shapes (form_text (update u f)) 0 ≡ None
 unfolding read_by starts
 update_not_tree u f = refl
 
@@ -121,7 +123,7 @@ module _ (u v : ℕ) (f g : Form) (hu : Small u) (hv : Small v) (e : form_text (
   update_opened =
       let a = spaced_found s 7 u (inner f) hu (number_after u f) refl in
       let b = spaced_found s 7 v (inner g) hv (ap (drop 7) e ∙ number_after v g) refl in
-      let is : u ≡ v = cc in
+      let is : u ≡ v = (same_read (sym a.0 ∙ b.0)).0 in
       let n : 7 + 1 + length (decimal u) ≡ 7 + 1 + length (decimal v) = ap (λ (w : ℕ). 7 + 1 + length (decimal w)) is in
       let r : inner f ≡ inner g = sym a.1 ∙ (ap (λ (k : ℕ). drop k s) n ∙ b.1) in
       let p = cut (written f ++ bytes ")") (written g ++ bytes ")") (bytes "\n") (ap (drop 1) r) in

@@ -1,4 +1,5 @@
 -- The recogniser of first lines is exact: it opens a line exactly if the line says a first line. Assumes nothing.
+use Rattle.std.specs.Prelude.{Some, None}
 use mathlib.Core.Path.{◌≡◌, refl, sym, ap, ◌∙◌, subst}
 use mathlib.Core.Bool.{Bool, cond, false, true}
 use mathlib.Core.Logic.{◌⊎◌, inl, inr, ◌↔◌}
@@ -6,8 +7,6 @@ use mathlib.Core.List.{List, ◌++◌, append_assoc}
 use Prim.Native.Nat.{ℕ, ◌+◌, ◌≤◌, ◌<◌}
 use native.Mathlib.Omega.{arith}
 use lib.ListN.{length, get_or, drop}
-use Rattle.decimal.specs.declared.Num.{Num}
-use Rattle.decimal.specs.declared.Num.TheVariants.{Value, Wrong}
 use Rattle.decimal.specs.Bytes.{bytes}
 use Rattle.decimal.specs.Text.{decimal}
 use Rattle.decimal.specs.Word.{starts}
@@ -15,16 +14,15 @@ use Rattle.decimal.specs.Number.{digit_b}
 use Rattle.decimal.proofs.Cases.{advance}
 use Rattle.decimal.proofs.Words.{word_sound, word_back, word_in}
 use Rattle.forms.specs.Form.{spaced_numbers, written, Small, Ascending, SmallForm, Says, line, SaysAt}
-use Rattle.forms.specs.Read.{spaced_of, Read, read, other}
+use Rattle.forms.specs.Read.{spaced_of, Read, read, lined}
 use Rattle.forms.proofs.Arguments.{spaced_sound, spaced_found, place}
 use Rattle.forms.proofs.Lines.{written_some}
 use Rattle.forms.proofs.Reading.{Stood, Reader, line_exact, line_other}
-use Rattle.first_line.specs.declared.FirstKind.TheVariants.{NotAForm}
 use Rattle.first_line.specs.declared.First.{First}
-use Rattle.first_line.specs.Start.{Start, bare, lists, tree, start_form, no_first, seen, seen_of}
+use Rattle.first_line.specs.Start.{Start, bare, lists, tree, start_form, seen, seen_of}
 use Rattle.first_line.specs.Read.{entries_at, black_read, active_read, lists_at, ring_after, root_after, tree_after, start_at, first_at}
 use Rattle.first_line.specs.Exact.{Opened}
-use Rattle.first_line.proofs.Seen.{kind_none}
+use Rattle.first_line.proofs.Seen.{line_seen}
 use Rattle.first_line.proofs.Nodes.{Listed, list_sound, list_found}
 
 -- a first line up to a place, and what follows
@@ -55,8 +53,8 @@ tree_text n root u = simp append_assoc
 -- 1. what is read stands there
 module _ (s : List ℕ) (at : ℕ) where
   abbrev Sound : Read Start → Type 0
-  Sound (read f e) = (drop at s ≡ written (start_form f) ++ drop e s) × (e ≤ length s) × SmallForm (start_form f)
-  Sound other = Unit {0}
+  Sound (Some (f, e)) = (drop at s ≡ written (start_form f) ++ drop e s) × (e ≤ length s) × SmallForm (start_form f)
+  Sound None = Unit {0}
 
   pick_sound : (t : Bool) (a b : Read Start) → (t ≡ true → Sound a) → Sound b → Sound (cond t a b)
   pick_sound true a b f g = f refl
@@ -72,20 +70,20 @@ module _ (s : List ℕ) (at : ℕ) where
   black_sound : (n : ℕ) (a : List ℕ) (x : ℕ) → Small n → Ascending 0 a → drop at s ≡ active_to n a (bytes ") (black" ++ drop x s)
       → (r : Read (List ℕ)) → Listed s 0 x r → Sound (black_read s n a r)
   unfolding black_read
-  black_sound n a x small asc e other h = tt
-  black_sound n a x small asc e (read b q) h =
+  black_sound n a x small asc e None h = tt
+  black_sound n a x small asc e (Some (b, q)) h =
       last_sound (bytes "))") q (lists n a b) (omega arith) (small, asc, h.0)
       (λ w. e
       ∙ (ap (λ (u : List ℕ). active_to n a (bytes ") (black" ++ u)) h.1
       ∙ (ap (black_to n a b) w ∙ sym (lists_text n a b (drop (q + 2) s)))))
-      other tt
+      None tt
 
   active_sound : (n x : ℕ) → Small n → drop at s ≡ ring_to n (bytes " (active" ++ drop x s)
       → (r : Read (List ℕ)) → Listed s 0 x r → Sound (active_read s n r)
   unfolding active_read
-  active_sound n x small e other h = tt
-  active_sound n x small e (read a q) h =
-      pick_sound (starts (bytes ") (black") (drop q s)) _ other
+  active_sound n x small e None h = tt
+  active_sound n x small e (Some (a, q)) h =
+      pick_sound (starts (bytes ") (black") (drop q s)) _ None
       (λ w. black_sound n a (q + 8) small h.0
       (e ∙ (ap (λ (u : List ℕ). ring_to n (bytes " (active" ++ u)) h.1 ∙ ap (active_to n a) (word_sound s q (bytes ") (black") w)))
       (entries_at s (q + 8)) (list_sound s (q + 8)))
@@ -94,38 +92,38 @@ module _ (s : List ℕ) (at : ℕ) where
   lists_sound : (n p : ℕ) → Small n → drop at s ≡ ring_to n (drop p s) → Sound (lists_at s n p)
   unfolding lists_at
   lists_sound n p small e =
-      pick_sound (starts (bytes " (active") (drop p s)) _ other
+      pick_sound (starts (bytes " (active") (drop p s)) _ None
       (λ w. active_sound n (p + 8) small (e ∙ ap (ring_to n) (word_sound s p (bytes " (active") w)) (entries_at s (p + 8)) (list_sound s (p + 8)))
       tt
 
-  ring_sound : (x : ℕ) → drop at s ≡ bytes "(ring" ++ drop x s → (m : Num) → spaced_of s x ≡ m → Sound (ring_after s m)
+  ring_sound : (x : ℕ) → drop at s ≡ bytes "(ring" ++ drop x s → (m : Read ℕ) → spaced_of s x ≡ m → Sound (ring_after s m)
   unfolding ring_after
-  ring_sound x e Wrong h = tt
-  ring_sound x e (Value n p) h =
+  ring_sound x e None h = tt
+  ring_sound x e (Some (n, p)) h =
       let r = spaced_sound s x n p h in
       let t : drop at s ≡ ring_to n (drop p s) = e ∙ ap (λ (u : List ℕ). bytes "(ring" ++ u) r.0 in
       last_sound (bytes ")") p (bare n) (omega arith) r.1
       (λ w. t ∙ (ap (ring_to n) w ∙ sym (bare_text n (drop (p + 1) s))))
       (lists_at s n p) (lists_sound n p r.1 t)
 
-  root_sound : (n x : ℕ) → Small n → drop at s ≡ tree_to n (bytes " (root" ++ drop x s) → (m : Num) → spaced_of s x ≡ m → Sound (root_after s n m)
+  root_sound : (n x : ℕ) → Small n → drop at s ≡ tree_to n (bytes " (root" ++ drop x s) → (m : Read ℕ) → spaced_of s x ≡ m → Sound (root_after s n m)
   unfolding root_after
-  root_sound n x small e Wrong h = tt
-  root_sound n x small e (Value root q) h =
+  root_sound n x small e None h = tt
+  root_sound n x small e (Some (root, q)) h =
       let r = spaced_sound s x root q h in
       last_sound (bytes "))") q (tree n root) (omega arith) (small, r.1)
       (λ w. e
       ∙ (ap (λ (u : List ℕ). tree_to n (bytes " (root" ++ u)) r.0
       ∙ (ap (root_to n root) w ∙ sym (tree_text n root (drop (q + 2) s)))))
-      other tt
+      None tt
 
-  tree_sound : (x : ℕ) → drop at s ≡ bytes "(tree" ++ drop x s → (m : Num) → spaced_of s x ≡ m → Sound (tree_after s m)
+  tree_sound : (x : ℕ) → drop at s ≡ bytes "(tree" ++ drop x s → (m : Read ℕ) → spaced_of s x ≡ m → Sound (tree_after s m)
   unfolding tree_after
-  tree_sound x e Wrong h = tt
-  tree_sound x e (Value n p) h =
+  tree_sound x e None h = tt
+  tree_sound x e (Some (n, p)) h =
       let r = spaced_sound s x n p h in
       let t : drop at s ≡ tree_to n (drop p s) = e ∙ ap (λ (u : List ℕ). bytes "(tree" ++ u) r.0 in
-      pick_sound (starts (bytes " (root") (drop p s)) _ other
+      pick_sound (starts (bytes " (root") (drop p s)) _ None
       (λ w. root_sound n (p + 6) r.1 (t ∙ ap (tree_to n) (word_sound s p (bytes " (root") w)) (spaced_of s (p + 6)) refl)
       tt
 
@@ -134,13 +132,13 @@ module _ (s : List ℕ) (at : ℕ) where
   start_sound =
       pick_sound (starts (bytes "(ring") (drop at s)) _ _
       (λ w. ring_sound (at + 5) (word_sound s at (bytes "(ring") w) (spaced_of s (at + 5)) refl)
-      (pick_sound (starts (bytes "(tree") (drop at s)) _ other
+      (pick_sound (starts (bytes "(tree") (drop at s)) _ None
       (λ w. tree_sound (at + 5) (word_sound s at (bytes "(tree") w) (spaced_of s (at + 5)) refl)
       tt)
 
   -- 2. what stands there is read
   ring_found : (n : ℕ) (u : List ℕ) → Small n → digit_b (get_or u 0 0) ≡ false → drop at s ≡ ring_to n u
-      → (p : ℕ) × (start_at s at ≡ ring_after s (Value n p)) × (drop p s ≡ u)
+      → (p : ℕ) × (start_at s at ≡ ring_after s (read n p)) × (drop p s ≡ u)
   unfolding start_at
   ring_found n u small d e =
       let x : drop (at + 5) s ≡ bytes " " ++ (decimal n ++ u) = advance s (bytes "(ring") (bytes " " ++ (decimal n ++ u)) at e in
@@ -217,21 +215,21 @@ module _ (s : List ℕ) (at : ℕ) where
 
   -- 4. the answer
   sound_by : (r : Read Start) → first_at s at ≡ r
-      → (seen_of r ≡ no_first) ⊎ ((f : Start) × (e : ℕ) × SaysAt s at (start_form f) e × (seen_of r ≡ seen f e))
-  sound_by other h = inl refl
-  sound_by (read f e) h = inr (f, e, (first_exact f e).0 h, refl)
+      → (seen_of r ≡ None) ⊎ ((f : Start) × (e : ℕ) × SaysAt s at (start_form f) e × (seen_of r ≡ read (seen f) e))
+  sound_by None h = inl refl
+  sound_by (Some (f, e)) h = inr (f, e, (first_exact f e).0 h, refl)
 
   opened : Opened s at (seen_of (first_at s at))
   opened = record { whole = λ f e says. ap seen_of ((first_exact f e).1 says); sound = sound_by (first_at s at) refl }
 
-  -- the contract of `read_first`, from its equation
-  pub first_line_is_told : (r : First) → r ≡ seen_of (first_at s at) → (r ≡ seen_of (first_at s at)) × Opened s at r
-  first_line_is_told r h = (h, subst (Opened s at) (sym h) opened)
+  -- the contract of `read_first`, from the form that stands in the line
+  pub first_line_is_told : (r : Read First) → r ≡ lined s at (seen_of (start_at s at)) → (r ≡ seen_of (first_at s at)) × Opened s at r
+  unfolding first_at
+  first_line_is_told r h =
+      let is : r ≡ seen_of (first_at s at) = h ∙ sym (line_seen s at (start_at s at)) in
+      (is, subst (Opened s at) (sym is) opened)
 
-  -- NotAForm is the answer exactly if the line says no first line
-  pub first_other : (first_at s at ≡ other) ↔ ((f : Start) → Says (line (drop at s)) (start_form f) → ⊥)
+  -- none is the answer exactly if the line says no first line
+  pub first_other : (first_at s at ≡ None) ↔ ((f : Start) → Says (line (drop at s)) (start_form f) → ⊥)
   unfolding first_at
   first_other = line_other start_form start_reader s at
-
-  pub first_not : ((seen_of (first_at s at)).kind ≡ NotAForm) ↔ ((f : Start) → Says (line (drop at s)) (start_form f) → ⊥)
-  first_not = (λ h. first_other.0 (kind_none (first_at s at) h), λ h. ap (λ (r : Read Start). (seen_of r).kind) (first_other.1 h))

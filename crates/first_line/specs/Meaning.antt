@@ -1,6 +1,6 @@
 -- What the fields of a ring's answer mean. Assumes nothing.
 use Rattle.std.specs.Prelude.{◌≡◌, Bool, cond, false, true, ◌↔◌, List, [], ◌∷◌, ℕ, zero, suc, ◌+◌, ◌≤◌, ◌<◌, length, get_or, eqb}
-use Rattle.first_line.specs.declared.First.{First}
+use Rattle.first_line.specs.declared.RingStart.{RingStart}
 
 -- the list names node i
 abbrev pub named : List ℕ → ℕ → Bool
@@ -25,7 +25,7 @@ abbrev pub flag_byte : Bool → Bool → ℕ
 flag_byte active black = cond active 1 0 + cond black 2 0
 
 -- the answer r to a ring line that names these nodes active and these black; its flags are told of so many places
-pub record Means (places : ℕ) (active black : List ℕ) (r : First) : Type 0 where
+pub record Means (places : ℕ) (active black : List ℕ) (r : RingStart) : Type 0 where
   pub many : length r.flags ≡ 96
   pub flag : (i : ℕ) → i < places → i < 96 → get_or r.flags i 0 ≡ flag_byte (named active i) (named black i)
   pub most : (n : ℕ) → (r.top ≤ n) ↔ (Below n active × Below n black)

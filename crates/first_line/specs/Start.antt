@@ -1,10 +1,11 @@
--- What the answer to a first line holds (document 01, "The log program"; document 02, Q-6). Assumes nothing.
-use Rattle.std.specs.Prelude.{cond, List, [], ◌∷◌, ℕ, ◌+◌, max, get_or, set, replicate, ltb}
+-- What the answer to a first line holds. Assumes nothing.
+use Rattle.std.specs.Prelude.{cond, List, [], ◌∷◌, ℕ, ◌+◌, max, get_or, set, replicate, ltb, Some, None}
 use Rattle.std.specs.Int.Bits.{bit_or}
 use Rattle.forms.specs.Form.{Form, bare_ring, ring_with, tree_of}
-use Rattle.forms.specs.Read.{Read, read, other}
-use Rattle.first_line.specs.declared.FirstKind.TheVariants.{Ring, Tree, NotAForm}
+use Rattle.forms.specs.Read.{Read, read}
+use Rattle.first_line.specs.declared.RingStart.{RingStart}
 use Rattle.first_line.specs.declared.First.{First}
+use Rattle.first_line.specs.declared.First.TheVariants.{Ring, Tree}
 
 -- a first line: a ring without lists, a ring with both, a tree
 pub data Start : Type 0 where
@@ -24,15 +25,8 @@ zeros = replicate 96 0
 abbrev pub ones : List ℕ
 ones = replicate 96 1
 
-abbrev pub ring_first : ℕ → List ℕ → ℕ → ℕ → First
-ring_first n flags top end = record { kind = Ring; n = n; root = 0; flags = flags; top = top; end = end }
-
-abbrev pub tree_first : ℕ → ℕ → ℕ → First
-tree_first n root end = record { kind = Tree; n = n; root = root; flags = zeros; top = 0; end = end }
-
--- the answer to a line that is no first line: its fields are zero
-abbrev pub no_first : First
-no_first = record { kind = NotAForm; n = 0; root = 0; flags = zeros; top = 0; end = 0 }
+abbrev pub ring_first : ℕ → List ℕ → ℕ → RingStart
+ring_first n flags top = record { n = n; flags = flags; top = top }
 
 -- node k is named: "lowest bit active, next bit black"; a node past the 96 has no flag
 abbrev pub flagged : ℕ → ℕ → List ℕ → List ℕ
@@ -48,16 +42,19 @@ abbrev pub top_of : List ℕ → ℕ → ℕ
 top_of [] top = top
 top_of (k ∷ ks) top = top_of ks (max top (k + 1))
 
--- what the answer holds of a form that ends before index e. Document 02, Q-6: "`(ring 3)` alone now means all active and white"
-abbrev pub seen : Start → ℕ → First
-seen (bare n) e = ring_first n ones n e
-seen (lists n active black) e = ring_first n (flag_all 2 black (flag_all 1 active zeros)) (top_of black (top_of active 0)) e
-seen (tree n root) e = tree_first n root e
+-- what the answer holds of a ring's line. Where it has no lists, all nodes are active and white
+abbrev pub bare_start : ℕ → RingStart
+bare_start n = ring_first n ones n
 
--- the same answer, that ends before index e
-abbrev pub until : ℕ → First → First
-until e r = record { kind = r.kind; n = r.n; root = r.root; flags = r.flags; top = r.top; end = e }
+abbrev pub lists_start : ℕ → List ℕ → List ℕ → RingStart
+lists_start n active black = ring_first n (flag_all 2 black (flag_all 1 active zeros)) (top_of black (top_of active 0))
 
-abbrev pub seen_of : Read Start → First
-seen_of (read f e) = seen f e
-seen_of other = no_first
+-- what the answer holds of a form
+abbrev pub seen : Start → First
+seen (bare n) = Ring (bare_start n)
+seen (lists n active black) = Ring (lists_start n active black)
+seen (tree n root) = Tree n root
+
+abbrev pub seen_of : Read Start → Read First
+seen_of (Some (f, e)) = read (seen f) e
+seen_of None = None

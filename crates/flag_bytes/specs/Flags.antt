@@ -1,5 +1,6 @@
 -- Truths that are lent as bytes: 1 is true, 0 is false, and a byte above 1 is no flag.
-use Rattle.std.specs.Prelude.{ℕ, eqb, leb, Bool, ◌&&◌, cond, true, List, [], ◌∷◌, map}
+use Rattle.std.specs.Prelude.{ℕ, eqb, leb, Bool, cond, List, map}
+use Rattle.std.specs.List.{list_all}
 
 abbrev pub is_flag : ℕ → Bool
 is_flag b = leb b 1
@@ -12,8 +13,7 @@ byte_of b = cond b 1 0
 
 -- the same of columns: is each byte a flag; the truths; the bytes
 unfoldable pub are_flags : List ℕ → Bool
-are_flags [] = true
-are_flags (b ∷ l) = is_flag b && are_flags l
+are_flags l = list_all is_flag l
 
 unfoldable pub flags_of : List ℕ → List Bool
 flags_of l = map flag_of l

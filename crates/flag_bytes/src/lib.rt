@@ -2,103 +2,68 @@
 #![tactic(auto)]
 
 ghost use Rattle.std.specs.Prelude.{◌≡◌, length};
-ghost use Rattle.flag_bytes.specs.Flags.{are_flags, flags_of, byte_of, bytes_of};
+ghost use Rattle.flag_bytes.specs.Flags.{are_flags, flags_of, bytes_of};
 ghost use Rattle.flag_bytes.specs.Narrow.{kind_byte, limit_word};
 
-use refusal::{RING_NODES, TREE_NODES};
-
-// Is each byte a flag?
-pub fn are_flags(s: &[u8]) -> bool
-    ensures { result ≡ are_flags s.now }
+/// Is each byte a flag, 0 or 1?
+#[tactic(auto, unfolding(crate::specs::Flags::are_flags))]
+pub fn are_flags(bytes: &[u8]) -> bool
+    ensures { result ≡ are_flags bytes.now }
 {
-    let mut ok = true;
-    let mut i = 0;
-    while i < s.len() {
-        ok = ok & (s[i] <= 1);
-        i += 1;
-    }
-    ok
+    bytes.iter().all(|byte| *byte <= 1)
 }
 
-// The truths of a column of bytes.
-fn put_flags(s: &[u8], out: &mut [bool])
-    requires { length out.old ≡ length s.now }
-    ensures { out.new ≡ flags_of s.now }
+// Puts the truths of a column of bytes. Kept, here and below: places are filled one by one, since `map` over an array of any length left goals on its length open.
+#[tactic(auto, unfolding(crate::specs::Flags::flags_of))]
+fn put_truths(bytes: &[u8], truths: &mut [bool])
+    requires { length truths.old ≡ length bytes.now }
+    ensures { truths.new ≡ flags_of bytes.now }
 {
-    let mut i = 0;
-    while i < s.len() {
-        out[i] = s[i] == 1;
-        i += 1;
+    for (i, byte) in bytes.iter().enumerate() {
+        truths[i] = *byte == 1;
     }
 }
 
-// 1 for true, 0 for false.
-pub fn byte(b: bool) -> u8
-    ensures { result ≡ byte_of b }
+// Puts the bytes of a column of truths.
+#[tactic(auto, unfolding(crate::specs::Flags::bytes_of))]
+fn put_bytes(truths: &[bool], bytes: &mut [u8])
+    requires { length bytes.old ≡ length truths.now }
+    ensures { bytes.new ≡ bytes_of truths.now }
 {
-    if b { 1 } else { 0 }
-}
-
-// The bytes of a column of truths.
-fn put_bytes(s: &[bool], out: &mut [u8])
-    requires { length out.old ≡ length s.now }
-    ensures { out.new ≡ bytes_of s.now }
-{
-    let mut i = 0;
-    while i < s.len() {
-        out[i] = byte(s[i]);
-        i += 1;
+    for (i, truth) in truths.iter().enumerate() {
+        bytes[i] = u8::from(*truth);
     }
 }
 
-pub fn ring_flags(s: [u8; RING_NODES]) -> [bool; RING_NODES]
-    ensures { result ≡ flags_of s }
+/// The truths of bytes: 1 is true, any other is not.
+pub fn truths<const N: usize>(bytes: &[u8; N]) -> [bool; N]
+    ensures { result ≡ flags_of bytes.now }
 {
-    let mut out = [false; RING_NODES];
-    put_flags(&s, &mut out);
-    out
+    let mut truths = [false; N];
+    put_truths(bytes, &mut truths);
+    truths
 }
 
-pub fn ring_bytes(s: [bool; RING_NODES]) -> [u8; RING_NODES]
-    ensures { result ≡ bytes_of s }
+/// The bytes of truths: 1 for true, 0 for false.
+pub fn bytes_of<const N: usize>(truths: &[bool; N]) -> [u8; N]
+    ensures { result ≡ bytes_of truths.now }
 {
-    let mut out = [0u8; RING_NODES];
-    put_bytes(&s, &mut out);
-    out
+    let mut bytes = [0; N];
+    put_bytes(truths, &mut bytes);
+    bytes
 }
 
-pub fn tree_flags(s: [u8; TREE_NODES]) -> [bool; TREE_NODES]
-    ensures { result ≡ flags_of s }
-{
-    let mut out = [false; TREE_NODES];
-    put_flags(&s, &mut out);
-    out
-}
-
-pub fn tree_bytes(s: [bool; TREE_NODES]) -> [u8; TREE_NODES]
-    ensures { result ≡ bytes_of s }
-{
-    let mut out = [0u8; TREE_NODES];
-    put_bytes(&s, &mut out);
-    out
-}
-
-// A step's kind in a byte: 0, which is no kind, where it does not fit.
+// Kept, here and below: a function with a name, since the contracts of the calls of other languages speak of its definition.
+/// A step's kind in a byte: 0, which is no kind, where it does not fit.
 pub fn kind_byte(kind: usize) -> u8
     ensures { result ≡ kind_byte kind }
 {
-    if 255 < kind {
-        return 0;
-    }
-    kind as u8
+    u8::try_from(kind).unwrap_or(0)
 }
 
-// A driver's limit in 32 bits: the greatest number of 32 bits where it does not fit.
+/// A driver's limit in 32 bits: the greatest number of 32 bits where it does not fit.
 pub fn limit_word(limit: usize) -> u32
     ensures { result ≡ limit_word limit }
 {
-    if 4294967295 < limit {
-        return 4294967295;
-    }
-    limit as u32
+    u32::try_from(limit).unwrap_or(u32::MAX)
 }

@@ -13,14 +13,16 @@ use Rattle.decimal.specs.Word.{starts}
 use Rattle.decimal.proofs.Cases.{both_left, both_right, advance}
 use Rattle.decimal.proofs.Words.{word_sound, word_back, word_in}
 use Rattle.forms.specs.Form.{Form, written, form_text, SmallForm, line_bytes, Says, line, SaysAt}
-use Rattle.forms.specs.Read.{Read, read, other, ends_line, lined}
+use Rattle.std.specs.Prelude.{Some, None}
+use Rattle.forms.specs.Read.{Read, read, ends_line, lined}
+use Rattle.decimal.proofs.Cases.{same_read}
 use Rattle.forms.proofs.Arguments.{place}
 use Rattle.forms.proofs.Lines.{form_line, written_some, line_rest}
 
 abbrev newline : List ℕ
 newline = bytes "\n"
 
-pub no_read : {A B : Type 0} {a : A} {e : ℕ} → other ≡ read a e → B
+pub no_read : {A B : Type 0} {a : A} {e : ℕ} → None ≡ read a e → B
 no_read h = absurd (let z : ◌≡◌ {A = ℕ} 0 1 = cc in let y : ⊥ = omega arith in y)
 
 -- 1. the end of a line
@@ -67,17 +69,17 @@ module _ {A : Type 0} (form : A → Form) where
       pub ends : ends_line s at end ≡ true
 
     lined_pick : (s : List ℕ) (at : ℕ) (b : A) (d : ℕ) → reader s at ≡ read b d → (t : Bool) → ends_line s at d ≡ t
-        → (a : A) (e : ℕ) → cond t (read b (d + 1)) other ≡ read a e → Lined s at a e
+        → (a : A) (e : ℕ) → cond t (read b (d + 1)) None ≡ read a e → Lined s at a e
     lined_pick s at b d r false q a e h = no_read h
     lined_pick s at b d r true q a e h =
-        let x : b ≡ a = cc in
-        let y : d + 1 ≡ e = cc in
+        let x : b ≡ a = (same_read h).0 in
+        let y : d + 1 ≡ e = (same_read h).1 in
         record { end = d; is = r ∙ ap (λ (z : A). read z d) x; past = y; ends = q }
 
     lined_by : (s : List ℕ) (at : ℕ) (r : Read A) → reader s at ≡ r → (a : A) (e : ℕ) → lined s at r ≡ read a e → Lined s at a e
     unfolding lined
-    lined_by s at other q a e h = no_read h
-    lined_by s at (read b d) q a e h = lined_pick s at b d q (ends_line s at d) refl a e h
+    lined_by s at None q a e h = no_read h
+    lined_by s at (Some (b, d)) q a e h = lined_pick s at b d q (ends_line s at d) refl a e h
 
     pub line_lined : (s : List ℕ) (at : ℕ) (a : A) (e : ℕ) → lined s at (reader s at) ≡ read a e → Lined s at a e
     line_lined s at a e h = lined_by s at (reader s at) refl a e h
@@ -121,11 +123,11 @@ module _ {A : Type 0} (form : A → Form) where
         (omega (arith, stood_end r, l.past), omega (arith, z.1, l.past))
 
     -- none is read exactly if the line says none
-    none_by : (s : List ℕ) (at : ℕ) (r : Read A) → lined s at (reader s at) ≡ r → ((a : A) → Says (line (drop at s)) (form a) → ⊥) → r ≡ other
-    none_by s at other h no_one = refl
-    none_by s at (read a e) h no_one = absurd (no_one a (line_sound s at a e h).0)
+    none_by : (s : List ℕ) (at : ℕ) (r : Read A) → lined s at (reader s at) ≡ r → ((a : A) → Says (line (drop at s)) (form a) → ⊥) → r ≡ None
+    none_by s at None h no_one = refl
+    none_by s at (Some (a, e)) h no_one = absurd (no_one a (line_sound s at a e h).0)
 
-    pub line_other : (s : List ℕ) (at : ℕ) → (lined s at (reader s at) ≡ other) ↔ ((a : A) → Says (line (drop at s)) (form a) → ⊥)
+    pub line_other : (s : List ℕ) (at : ℕ) → (lined s at (reader s at) ≡ None) ↔ ((a : A) → Says (line (drop at s)) (form a) → ⊥)
     line_other s at = (
       λ h a says.
           let n = at + length (form_text (form a)) in
@@ -138,4 +140,4 @@ module _ {A : Type 0} (form : A → Form) where
     line_once a b ha hb e =
         let f = R.found (form_text (form a)) 0 a newline ha refl in
         let g = R.found (form_text (form a)) 0 b newline hb e in
-        cc
+        (same_read (sym f ∙ g)).0

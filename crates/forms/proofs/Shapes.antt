@@ -7,14 +7,13 @@ use Prim.Native.Nat.{ℕ, ◌+◌, ◌≤◌, ◌<◌}
 use native.Mathlib.Omega.{arith}
 use lib.ListN.{length, drop, length-append}
 use lib.Dec.{eqb}
-use Rattle.decimal.specs.Bytes.{bytes}
 use Rattle.decimal.specs.Word.{starts}
 use Rattle.decimal.proofs.Cases.{both_left, both_right, advance}
 use Rattle.decimal.proofs.Words.{word_sound, word_back}
-use Rattle.forms.specs.declared.Args.{Args}
-use Rattle.forms.specs.declared.Args.TheVariants.{Found, Bad}
 use Rattle.forms.specs.Form.{Form, written, SmallForm, SaysAt}
-use Rattle.forms.specs.Read.{args_of, Read, read, other, made_of, StepShape, read_by, lined}
+use Rattle.std.specs.Prelude.{Some, None}
+use Rattle.decimal.proofs.Cases.{same_read}
+use Rattle.forms.specs.Read.{Args, args_of, Read, read, made_of, StepShape, read_by, lined, ended}
 use Rattle.forms.proofs.Arguments.{args_text, SmallArgs, args_short, args_sound, args_found}
 use Rattle.forms.proofs.Reading.{no_read, ends_short, Stood, Reader, line_exact, line_inside}
 
@@ -76,7 +75,7 @@ step_bytes = 614
 
 -- no shape is read where another word stands
 pub read_none : {A : Type 0} (hs : List (StepShape A)) (w : List ℕ) → differs hs w ≡ true
-    → (s : List ℕ) (at : ℕ) (u : List ℕ) → drop at s ≡ w ++ u → read_by hs s at ≡ other
+    → (s : List ℕ) (at : ℕ) (u : List ℕ) → drop at s ≡ w ++ u → read_by hs s at ≡ None
 unfolding read_by
 read_none [] w e s at u p = refl
 read_none (h ∷ hs) w e s at u p =
@@ -102,14 +101,14 @@ module _ {A : Type 0} (form : A → Form) where
 
   -- a form that was read, and how long it is at most
   abbrev Sound : List ℕ → ℕ → Read A → Type 0
-  Sound s at (read a e) = Stood form s at a e × (e ≤ at + step_bytes)
-  Sound s at other = Unit {0}
+  Sound s at (Some (a, e)) = Stood form s at a e × (e ≤ at + step_bytes)
+  Sound s at None = Unit {0}
 
   made_sound : (h : StepShape A) → Spells h → (s : List ℕ) (at : ℕ) → drop at s ≡ h.word ++ drop (at + length h.word) s
       → (r : Args) → args_of h.count s (at + length h.word) ≡ r → Sound s at (made_of h.made r)
   unfolding made_of
-  made_sound h p s at w Bad q = tt
-  made_sound h p s at w (Found i j e) q =
+  made_sound h p s at w None q = tt
+  made_sound h p s at w (Some (i, j, e)) q =
       let r = args_sound h.count s (at + length h.word) i j e q in
       let t = p.spelled i j r.small in
       let args = args_text h.count i j in
@@ -137,10 +136,10 @@ module _ {A : Type 0} (form : A → Form) where
       (read_sound hs p.1 s at)
 
   stood_by : (s : List ℕ) (at : ℕ) (r : Read A) → Sound s at r → (a : A) (e : ℕ) → r ≡ read a e → Sound s at (read a e)
-  stood_by s at other h a e q = no_read q
-  stood_by s at (read b d) h a e q =
-      let p : b ≡ a = cc in
-      let x : d ≡ e = cc in
+  stood_by s at None h a e q = no_read q
+  stood_by s at (Some (b, d)) h a e q =
+      let p : b ≡ a = (same_read q).0 in
+      let x : d ≡ e = (same_read q).1 in
       rw (p, x) at h
 
   -- 4. exact both ways, if every form is one of the table's
@@ -175,38 +174,26 @@ module _ {A : Type 0} (form : A → Form) where
     table_reader = record { stood = λ s at a e h. (table_stood s at a e h).0; found = table_found }
 
     -- a step with its byte 10 is a line: it is not too long
-    pub table_line : (s : List ℕ) (at : ℕ) (a : A) (e : ℕ) → read_by hs s at ≡ read a e
-        → lined s at (read_by hs s at) ≡ cond (starts (bytes "\n") (drop e s)) (read a (e + 1)) other
-    unfolding lined
-    table_line s at a e h = rw (h, ends_short s at e (omega (arith, (table_stood s at a e h).1)))
+    ended_by : (s : List ℕ) (at : ℕ) (r : Read A) → read_by hs s at ≡ r → ended s r ≡ lined s at r
+    unfolding ended lined
+    ended_by s at None h = refl
+    ended_by s at (Some (a, e)) h = rw (ends_short s at e (omega (arith, (table_stood s at a e h).1)))
+
+    pub table_ended : (s : List ℕ) (at : ℕ) → ended s (read_by hs s at) ≡ lined s at (read_by hs s at)
+    table_ended s at = ended_by s at (read_by hs s at) refl
 
     pub table_short : (s : List ℕ) (at : ℕ) (a : A) (e : ℕ) → read_by hs s at ≡ read a e → e ≤ at + step_bytes
     table_short s at a e h = (table_stood s at a e h).1
 
-    -- 5. the same of an answer of the code's own type, in which `step` is what was read
-    module _ (L : Type 0) (answer : Read A → L) (step : A → ℕ → L) (on : (a : A) (e : ℕ) → answer (read a e) ≡ step a e)
-        (back : (r : Read A) (a : A) (e : ℕ) → answer r ≡ step a e → r ≡ read a e) where
-      pub answer_exact : (s : List ℕ) (at : ℕ) (a : A) (e : ℕ) → (answer (lined s at (read_by hs s at)) ≡ step a e) ↔ SaysAt s at (form a) e
-      answer_exact s at a e =
-          let x = line_exact form table_reader s at a e in
-          (λ h. x.0 (back (lined s at (read_by hs s at)) a e h), λ h. ap answer (x.1 h) ∙ on a e)
+    -- 5. the answer to a line
+    pub table_exact : (s : List ℕ) (at : ℕ) (a : A) (e : ℕ) → (lined s at (read_by hs s at) ≡ read a e) ↔ SaysAt s at (form a) e
+    table_exact = line_exact form table_reader
 
-      -- a contract, from its equation
-      pub answer_told : (s : List ℕ) (at : ℕ) (r : L) → r ≡ answer (lined s at (read_by hs s at))
-          → (r ≡ answer (lined s at (read_by hs s at))) × ((a : A) (e : ℕ) → (r ≡ step a e) ↔ SaysAt s at (form a) e)
-      answer_told s at r h =
-          (h, subst (λ (x : L). (a : A) (e : ℕ) → (x ≡ step a e) ↔ SaysAt s at (form a) e) (sym h) (answer_exact s at))
+    -- a contract, from its equation
+    pub table_told : (s : List ℕ) (at : ℕ) (r : Read A) → r ≡ lined s at (read_by hs s at)
+        → (r ≡ lined s at (read_by hs s at)) × ((a : A) (e : ℕ) → (r ≡ read a e) ↔ SaysAt s at (form a) e)
+    table_told s at r h = (h, subst (λ (x : Read A). (a : A) (e : ℕ) → (x ≡ read a e) ↔ SaysAt s at (form a) e) (sym h) (table_exact s at))
 
-      -- the answer to a line, from the step that stands in it
-      pub answer_line : (s : List ℕ) (at : ℕ) (a : A) (e : ℕ) → step a e ≡ answer (read_by hs s at)
-          → answer (lined s at (read_by hs s at)) ≡ cond (starts (bytes "\n") (drop e s)) (step a (e + 1)) (answer other)
-      answer_line s at a e h =
-          ap answer (table_line s at a e (back (read_by hs s at) a e (sym h))) ∙ pick (starts (bytes "\n") (drop e s))
-        where
-          pick : (t : Bool) → answer (cond t (read a (e + 1)) other) ≡ cond t (step a (e + 1)) (answer other)
-          pick true = on a (e + 1)
-          pick false = refl
-
-      -- what was read lies inside
-      pub answer_inside : (s : List ℕ) (at : ℕ) (a : A) (e : ℕ) → answer (lined s at (read_by hs s at)) ≡ step a e → (at < e) × (e ≤ length s)
-      answer_inside s at a e h = line_inside form table_reader s at a e (back (lined s at (read_by hs s at)) a e h)
+    -- what was read lies inside
+    pub table_inside : (s : List ℕ) (at : ℕ) (a : A) (e : ℕ) → lined s at (read_by hs s at) ≡ read a e → (at < e) × (e ≤ length s)
+    table_inside = line_inside form table_reader

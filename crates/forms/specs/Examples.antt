@@ -1,11 +1,10 @@
 -- The lines that documents 01 and 02 show are those of their forms; and what is read of lines that take. Assumes nothing.
-use Rattle.std.specs.Prelude.{◌≡◌, List, [], ◌∷◌, map, ℕ}
+use Rattle.std.specs.Prelude.{◌≡◌, None, List, [], ◌∷◌, map, ℕ}
 use Rattle.decimal.specs.Bytes.{bytes}
-use Rattle.forms.specs.declared.RingLine.{RingLine}
-use Rattle.forms.specs.declared.RingLine.TheVariants.{Step, NotAForm}
+use Rattle.forms.specs.declared.RingStep.{RingStep}
 use Rattle.forms.specs.declared.RingStep.TheVariants.{TakeOne, Take}
 use Rattle.forms.specs.Form.{Form, bare_ring, ring_with, tree_of, send, take_one, take_with, idle, probe, pass, ack, leave, announce, update, form_text}
-use Rattle.forms.specs.Read.{ring_at}
+use Rattle.forms.specs.Read.{Read, read, ring_at}
 
 abbrev pub shown : List Form
 shown =
@@ -72,19 +71,19 @@ takes =
     ∷ bytes "(take)\n"
     ∷ []
 
-abbrev pub takes_say : List RingLine
+abbrev pub takes_say : List (Read RingStep)
 takes_say =
-    Step (TakeOne 2) 9
-    ∷ Step (Take 2 5) 11
-    ∷ Step (Take 2 1) 11
-    ∷ Step (Take 2 0) 11
-    ∷ Step (Take 2 1001) 14
-    ∷ Step (Take 2 99999) 15
-    ∷ NotAForm
-    ∷ NotAForm
-    ∷ NotAForm
-    ∷ NotAForm
-    ∷ NotAForm
+    read (TakeOne 2) 9
+    ∷ read (Take 2 5) 11
+    ∷ read (Take 2 1) 11
+    ∷ read (Take 2 0) 11
+    ∷ read (Take 2 1001) 14
+    ∷ read (Take 2 99999) 15
+    ∷ None
+    ∷ None
+    ∷ None
+    ∷ None
+    ∷ None
     ∷ []
 
 abbrev pub TakesRead : Type 0

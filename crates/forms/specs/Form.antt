@@ -1,4 +1,4 @@
--- The forms of a log, and the line of each (document 01, "The log program"). Assumes nothing.
+-- The forms of a log, and the line of each. Assumes nothing.
 use Rattle.std.specs.Prelude.{◌≡◌, cond, List, [], ◌∷◌, ◌++◌, ℕ, ◌+◌, ◌≤◌, length, drop, eqb}
 use Rattle.decimal.specs.Bytes.{bytes}
 use Rattle.decimal.specs.Number.{number_limit}
@@ -10,8 +10,8 @@ use Rattle.forms.specs.declared.TreeStep.TheVariants as tree
 
 -- "First line: `(ring 2 (active) (black 1))`, `(ring 2)` or `(tree 3 (root 0))`. A ring line has both lists or neither": the first three.
 -- "Then ring steps .. or tree steps": `take_one i` is the ring's, `(take i)`. `take_with i k` is `(take i k)`: on the ring i takes k messages, on the
--- tree one from k. Document 02, Q-2: "In the log `(take 2 5)` is new and `(take 2)` means one."
--- Document 02, Q-1: "`(update 2 (send 0 3))`, a start `(update 2 (ring 4))`": `update` is a form inside the number of its update.
+-- tree one from k. In the log of a ring `(take 2)` means one message.
+-- A step or a start of an update is wrapped, `(update 2 (send 0 3))`, `(update 2 (ring 4))`: `update` is a form inside the number of its update.
 pub data Form : Type 0 where
   bare_ring : (n : ℕ) → Form
   ring_with : (n : ℕ) (active black : List ℕ) → Form

@@ -1,16 +1,16 @@
-// What the steps of a log are, and their numbers, read where they stand in a line.
+//! What the steps of a log are, and their numbers, read where they stand in a line.
 #![tactic(auto)]
 
 ghost use Rattle.std.specs.Prelude.{◌≡◌};
-ghost use Rattle.forms.specs.Read.{one, two, one_or_two, spaced_of, closed_of, second_of, raised, args_of, ends_line};
+ghost use Rattle.forms.specs.Read.{one, two, one_or_two, spaced_of, closed_at, args_of, ends_line, lined, of_one, of_either};
 
-use decimal::{Num, byte_at, has, short_number};
+use decimal::{byte_at, has, short_number};
 
-// The most bytes of a line, byte 10 with them: `line_bytes` of specs/Form.
-pub const LINE_BYTES: usize = 700;
+/// The most bytes of a line, byte 10 with them.
+pub const LINE_BYTES: usize = 700; // `line_bytes` of specs/Form
 
-// A step of the ring, as it is written: `TakeOne(i)` is `(take i)`, `Take(i, n)` is `(take i n)`.
-#[derive(Clone, Copy)]
+/// A step of the ring, as it is written: `TakeOne(i)` is `(take i)`, `Take(i, n)` is `(take i n)`.
+#[derive(Clone, Copy, Debug, PartialEq, Eq)]
 pub enum RingStep {
     Send(usize, usize),
     TakeOne(usize),
@@ -21,8 +21,8 @@ pub enum RingStep {
     Announce,
 }
 
-// A step of the tree.
-#[derive(Clone, Copy)]
+/// A step of the tree, as it is written.
+#[derive(Clone, Copy, Debug, PartialEq, Eq)]
 pub enum TreeStep {
     Send(usize, usize),
     Take(usize, usize),
@@ -32,113 +32,79 @@ pub enum TreeStep {
     Announce,
 }
 
-// What stands at a place: a step, and the index past its form, or past the byte 10 of its line.
-#[derive(Clone, Copy)]
-pub enum RingLine {
-    Step(RingStep, usize),
-    NotAForm,
-}
-
-#[derive(Clone, Copy)]
-pub enum TreeLine {
-    Step(TreeStep, usize),
-    NotAForm,
-}
-
-// The numbers after a word, 0 for those that it has not, and the index past the form. Where the second may be missing, it is told as one more.
-#[derive(Clone, Copy)]
-pub enum Args {
-    Found(usize, usize, usize),
-    Bad,
-}
-
-// A space and a number of one to five digits.
-pub fn spaced(s: &[u8], at: usize) -> Num
+/// A space and a number of one to five digits: its value, and the index past it.
+#[tactic(auto, unfolding(crate::specs::Read::spaced_of))]
+pub fn spaced(s: &[u8], at: usize) -> Option<(usize, usize)>
     ensures { result ≡ spaced_of s.now at }
 {
     if byte_at(s, at) != b' ' {
-        return Num::Wrong;
+        return None;
     }
     short_number(s, at + 1)
 }
 
-// The end of a form, after the numbers i and j.
-pub fn closed(s: &[u8], at: usize, i: usize, j: usize) -> Args
-    ensures { result ≡ closed_of s.now at i j }
+/// The closing parenthesis of a form: the index past it.
+#[tactic(auto, using(crate::proofs::Arguments::byte_word), unfolding(crate::specs::Read::closed_at))]
+pub fn closed(s: &[u8], at: usize) -> Option<usize>
+    ensures { result ≡ closed_at s.now at }
 {
     if byte_at(s, at) != b')' {
-        return Args::Bad;
+        return None;
     }
-    Args::Found(i, j, at + 1)
+    Some(at + 1)
 }
 
-pub fn one_number(s: &[u8], at: usize) -> Args
-    ensures { result ≡ args_of one s.now at }
+/// One number, and the end of the form: the number, and the index past the form.
+#[tactic(auto, unfolding(crate::specs::Read::one_of, crate::specs::Read::closed_of))]
+pub fn one_number(s: &[u8], at: usize) -> Option<(usize, usize)>
+    ensures { of_one result ≡ args_of one s.now at }
 {
-    let m = spaced(s, at);
-    match m {
-        Num::Value(i, p) => closed(s, p, i, 0),
-        Num::Wrong => Args::Bad,
-    }
+    let (i, at) = spaced(s, at)?;
+    let end = closed(s, at)?;
+    Some((i, end))
 }
 
-// The second of two numbers, after the first, i.
-fn second(s: &[u8], at: usize, i: usize) -> Args
-    ensures { result ≡ second_of s.now i (spaced_of s.now at) }
-{
-    let m = spaced(s, at);
-    match m {
-        Num::Value(j, p) => closed(s, p, i, j),
-        Num::Wrong => Args::Bad,
-    }
-}
-
-pub fn two_numbers(s: &[u8], at: usize) -> Args
+/// Two numbers, and the end of the form: the numbers, and the index past the form.
+#[tactic(auto, unfolding(crate::specs::Read::two_of, crate::specs::Read::second_of, crate::specs::Read::closed_of))]
+pub fn two_numbers(s: &[u8], at: usize) -> Option<(usize, usize, usize)>
     ensures { result ≡ args_of two s.now at }
 {
-    let m = spaced(s, at);
-    match m {
-        Num::Value(i, p) => second(s, p, i),
-        Num::Wrong => Args::Bad,
-    }
+    let (i, at) = spaced(s, at)?;
+    let (j, at) = spaced(s, at)?;
+    let end = closed(s, at)?;
+    Some((i, j, end))
 }
 
-// The second number, after the first, i, told as one more than it says.
-fn second_more(s: &[u8], at: usize, i: usize) -> Args
-    ensures { result ≡ raised (second_of s.now i (spaced_of s.now at)) }
+/// One number or two, and the end of the form: the first, the second where it is written, and the index past the form.
+#[tactic(auto, unfolding(crate::specs::Read::one_of, crate::specs::Read::two_of, crate::specs::Read::second_of, crate::specs::Read::closed_of))]
+pub fn one_or_two(s: &[u8], at: usize) -> Option<(usize, Option<usize>, usize)>
+    ensures { of_either result ≡ args_of one_or_two s.now at }
 {
-    let m = spaced(s, at);
-    match m {
-        Num::Value(j, p) => closed(s, p, i, j + 1),
-        Num::Wrong => Args::Bad,
+    let (i, at) = spaced(s, at)?;
+    if let Some(end) = closed(s, at) {
+        return Some((i, None, end));
     }
+    let (j, at) = spaced(s, at)?;
+    let end = closed(s, at)?;
+    Some((i, Some(j), end))
 }
 
-// One number, or two: the second is told as one more than it says, and as 0 where it is missing.
-pub fn one_or_two(s: &[u8], at: usize) -> Args
-    ensures { result ≡ args_of one_or_two s.now at }
+/// Whether the line that begins at `at` ends at index `end`: its byte 10 stands there, and it has at most 700 bytes with it.
+#[tactic(auto, unfolding(crate::specs::Read::ends_line))]
+pub fn ends_line(s: &[u8], at: usize, end: usize) -> bool
+    ensures { result ≡ ends_line s.now at end }
 {
-    let m = spaced(s, at);
-    match m {
-        Num::Value(i, p) => {
-            if byte_at(s, p) == b')' {
-                return Args::Found(i, 0, p + 1);
-            }
-            second_more(s, p, i)
-        }
-        Num::Wrong => Args::Bad,
-    }
+    has(s, end, b"\n") && (end < LINE_BYTES || end - LINE_BYTES < at)
 }
 
-// Whether the line that begins at `at` ends at index e, with its byte 10 there.
-pub fn ends_line(s: &[u8], at: usize, e: usize) -> bool
-    ensures { result ≡ ends_line s.now at e }
+/// The form that was read at `at`, if it is a line, with its byte 10 and at most 700 bytes long; and the index past that line.
+#[tactic(auto, using(crate::proofs::Reading::ends_sound), unfolding(crate::specs::Read::lined))]
+pub fn lined<S: Copy>(s: &[u8], at: usize, form: Option<(S, usize)>) -> Option<(S, usize)>
+    ensures { result ≡ lined s.now at form }
 {
-    if !has(s, e, b"\n") {
-        return false;
+    let (said, end) = form?;
+    if !ends_line(s, at, end) {
+        return None;
     }
-    if e < LINE_BYTES {
-        return true;
-    }
-    e - LINE_BYTES < at
+    Some((said, end + 1))
 }

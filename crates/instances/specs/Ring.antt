@@ -1,7 +1,7 @@
 -- That demand 3 speaks of something: a start and states handed in that meet what `WholeRuns` (ring_runs) asks for, and quiet points of
 -- their runs, with K worked out there. Only statements are here; proofs/Ring.antt proves them.
 use Rattle.std.specs.Prelude.{◌<◌, ◌≤◌, ℕ, negsuc, pos, replicate, false, true, List, [], ◌++◌, ◌∷◌, ◌≡◌}
-use Rattle.refusal.specs.declared.Verdict.TheVariants.{Accepted}
+use Rattle.refusal.specs.Table.{Accepted}
 use Rattle.ring_rules.specs.Soundness.{Open}
 use Rattle.ring_rules.specs.Start.{start_of, start_verdict}
 use Rattle.ring_rules.specs.State.{State}

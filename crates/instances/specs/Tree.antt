@@ -1,7 +1,7 @@
 -- That demand 3 speaks of something: a start and states handed in that meet what `WholeRuns` (tree_runs) asks for, and quiet points of
 -- their runs, with K worked out there. Only statements are here; proofs/Tree.antt proves them.
 use Rattle.std.specs.Prelude.{ℕ, replicate, false, List, [], ◌++◌, ◌∷◌, ◌≡◌}
-use Rattle.refusal.specs.declared.Verdict.TheVariants.{Accepted}
+use Rattle.refusal.specs.Table.{Accepted}
 use Rattle.runs.specs.Runs.{Accepts, Request, accepted_of, run_of}
 use Rattle.tree_rules.specs.Soundness.{Open}
 use Rattle.tree_rules.specs.Start.{start_of, start_verdict}

@@ -5,8 +5,8 @@ use mathlib.Core.Path.{◌∙◌, ◌≡◌, ap, refl, subst, sym}
 use Rattle.refusal.proofs.Table.{none_holds}
 use Rattle.refusal.specs.Table.{NoneHolds, also, first_of, none, settle}
 use Rattle.refusal.specs.declared.Refusal.{Refusal}
-use Rattle.refusal.specs.declared.Verdict.{Verdict}
-use Rattle.refusal.specs.declared.Verdict.TheVariants.{Accepted, Refused}
+use Rattle.refusal.specs.Table.{Verdict}
+use Rattle.refusal.specs.Table.{Accepted, Refused}
 use Rattle.ring_rules.proofs.Theorems.{driver_counts}
 use Rattle.ring_rules.specs.Driver.{drive_of, drive_table, move_limit, reason_verdict}
 use Rattle.ring_rules.specs.Theorems.{Ended, concluded, spends, waits}

@@ -14,8 +14,8 @@ use Rattle.refusal.proofs.Table.{not_both}
 use Rattle.refusal.specs.Table.{◌⟶◌, code_of, first_of, settle}
 use Rattle.refusal.specs.declared.Refusal.{Refusal}
 use Rattle.refusal.specs.declared.Refusal.TheVariants.{Closed, MoveLimit, Unsound}
-use Rattle.refusal.specs.declared.Verdict.{Verdict}
-use Rattle.refusal.specs.declared.Verdict.TheVariants.{Accepted, Refused}
+use Rattle.refusal.specs.Table.{Verdict}
+use Rattle.refusal.specs.Table.{Accepted, Refused}
 use Rattle.ring_rules.proofs.Fields.{drive_keeps, nodes_kept, unmoved}
 use Rattle.ring_rules.proofs.Theorems.{fields_unread}
 use Rattle.ring_rules.specs.Answers.{Answer, step_of}
@@ -23,8 +23,8 @@ use Rattle.ring_rules.specs.Driver.{Driven, drive_by, drive_of, move_limit, reas
 use Rattle.ring_rules.specs.Soundness.{sound_test}
 use Rattle.ring_rules.specs.Start.{start_of}
 use Rattle.ring_rules.specs.State.{State}
-use Rattle.ring_rules.specs.declared.Reason.{Reason}
-use Rattle.ring_rules.specs.declared.Reason.TheVariants.{Conclusive, Spent, Stopped, Waiting}
+use Rattle.ring_rules.specs.Driver.{Reason}
+use Rattle.ring_rules.specs.Driver.{Conclusive, Spent, Stopped, Waiting}
 use Rattle.lent.specs.Ring.{DrivenTo, Lent, StartedTo, SteppedTo, drive_reason, truths_test, lent, lent_of, state_of, step_verdict}
 
 -- flags are what their truths give back

@@ -9,12 +9,12 @@ use Rattle.laws.proofs.Tests.{both_true}
 use Rattle.refusal.proofs.Table.{code_accepted, none_holds, not_both, number_range}
 use Rattle.refusal.specs.Table.{NoneHolds, also, first_of, none, settle}
 use Rattle.refusal.specs.declared.Refusal.TheVariants.{Unsound}
-use Rattle.refusal.specs.declared.Verdict.{Verdict}
-use Rattle.refusal.specs.declared.Verdict.TheVariants.{Accepted, Refused}
+use Rattle.refusal.specs.Table.{Verdict}
+use Rattle.refusal.specs.Table.{Accepted, Refused}
 use Rattle.ring_rules.proofs.Theorems.{driver_counts}
 use Rattle.ring_rules.specs.Driver.{drive_by, drive_of, drive_table, move_limit, reason_number, reason_verdict}
-use Rattle.ring_rules.specs.declared.Reason.{Reason}
-use Rattle.ring_rules.specs.declared.Reason.TheVariants.{Conclusive, Spent, Stopped, Waiting}
+use Rattle.ring_rules.specs.Driver.{Reason}
+use Rattle.ring_rules.specs.Driver.{Conclusive, Spent, Stopped, Waiting}
 use Rattle.table_rules.specs.Answers.{verdict_on}
 use Rattle.ring_rules.proofs.Theorems as ring
 use Rattle.ring_rules.specs.Answers as ring_answers

@@ -16,8 +16,8 @@ use Rattle.refusal.proofs.Table.{other_kind}
 use Rattle.refusal.specs.Table.{code_of, first_of, settle}
 use Rattle.refusal.specs.declared.Refusal.{Refusal}
 use Rattle.refusal.specs.declared.Refusal.TheVariants.{Unsound}
-use Rattle.refusal.specs.declared.Verdict.{Verdict}
-use Rattle.refusal.specs.declared.Verdict.TheVariants.{Accepted, Refused}
+use Rattle.refusal.specs.Table.{Verdict}
+use Rattle.refusal.specs.Table.{Accepted, Refused}
 use Rattle.ring_rules.specs.Rules.{Announce, Idle, Kind, Pass, Probe, Send, Take, Unknown, effect, kind_of}
 use Rattle.ring_rules.specs.State.{State}
 use Rattle.table_rules.proofs.Keeps.{next_own, taken}

@@ -12,8 +12,8 @@ use Rattle.laws.specs.Places.{all_to}
 use Rattle.refusal.proofs.Table.{not_both}
 use Rattle.refusal.specs.Table.{settle}
 use Rattle.refusal.specs.declared.Refusal.TheVariants.{Unsound}
-use Rattle.refusal.specs.declared.Verdict.{Verdict}
-use Rattle.refusal.specs.declared.Verdict.TheVariants.{Accepted, Refused}
+use Rattle.refusal.specs.Table.{Verdict}
+use Rattle.refusal.specs.Table.{Accepted, Refused}
 use Rattle.ring_rules.specs.State.{State}
 use Rattle.table_rules.proofs.Keeps.{after_sound, taken}
 use Rattle.table_rules.proofs.Slots.{never_started, started_inside}

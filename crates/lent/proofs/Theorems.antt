@@ -8,11 +8,11 @@ use Rattle.flag_bytes.proofs.Laws.{no_flag, no_flags}
 use Rattle.flag_bytes.specs.Flags.{are_flags, is_flag}
 use Rattle.refusal.proofs.Table.{not_both}
 use Rattle.refusal.specs.Table.{code_of, settle}
-use Rattle.refusal.specs.declared.Verdict.{Verdict}
-use Rattle.refusal.specs.declared.Verdict.TheVariants.{Accepted, Refused}
+use Rattle.refusal.specs.Table.{Verdict}
+use Rattle.refusal.specs.Table.{Accepted, Refused}
 use Rattle.ring_rules.specs.Driver.{reason_number, reason_verdict}
-use Rattle.ring_rules.specs.declared.Reason.{Reason}
-use Rattle.ring_rules.specs.declared.Reason.TheVariants.{Conclusive, Spent, Stopped, Waiting}
+use Rattle.ring_rules.specs.Driver.{Reason}
+use Rattle.ring_rules.specs.Driver.{Conclusive, Spent, Stopped, Waiting}
 use Rattle.tree_text.specs.Read.{read_of}
 use Rattle.ring_rules.specs.Start as ring
 use Rattle.tree_rules.specs.Start as tree

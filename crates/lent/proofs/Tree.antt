@@ -12,8 +12,8 @@ use Rattle.laws.proofs.Tests.{both}
 use Rattle.refusal.specs.Table.{code_of, settle}
 use Rattle.refusal.specs.declared.Refusal.{Refusal}
 use Rattle.refusal.specs.declared.Refusal.TheVariants.{Unsound}
-use Rattle.refusal.specs.declared.Verdict.{Verdict}
-use Rattle.refusal.specs.declared.Verdict.TheVariants.{Accepted, Refused}
+use Rattle.refusal.specs.Table.{Verdict}
+use Rattle.refusal.specs.Table.{Accepted, Refused}
 use Rattle.tree_rules.proofs.Fields.{nodes_kept, root_kept}
 use Rattle.tree_rules.proofs.Theorems.{fields_unread}
 use Rattle.tree_rules.specs.Answers.{Answer, step_of}
@@ -21,9 +21,9 @@ use Rattle.tree_rules.specs.Start.{start_of}
 use Rattle.tree_rules.specs.State.{State}
 use Rattle.tree_text.specs.Read.{read_of}
 use Rattle.tree_text.specs.Write.{buffer_of, told, write_verdict, written_number, written_of}
-use Rattle.tree_text.specs.declared.Found.{Found}
-use Rattle.tree_text.specs.declared.Written.{Written}
-use Rattle.tree_text.specs.declared.Written.TheVariants.{Length, NotWritten}
+use Rattle.tree_text.specs.Read.{Found}
+use Rattle.tree_text.specs.Write.{Written}
+use Rattle.tree_text.specs.Write.{Length, NotWritten}
 use Rattle.lent.specs.Tree.{LentTree, ReadAs, TreeStartedTo, TreeSteppedTo, WrittenAs, lent_tree, lent_tree_of, tree_truths_test, tree_of, tree_step_verdict}
 
 -- flags are what their truths give back

@@ -4,15 +4,15 @@ use Rattle.std.specs.Prelude.{ℕ, ℤ, Bool, ◌&&◌, cond, List, ◌≡◌}
 use Rattle.flag_bytes.specs.Flags.{are_flags, byte_of, bytes_of, flag_of, flags_of, is_flag}
 use Rattle.refusal.specs.Table.{code_of, settle}
 use Rattle.refusal.specs.declared.Refusal.TheVariants.{Unsound}
-use Rattle.refusal.specs.declared.Verdict.{Verdict}
-use Rattle.refusal.specs.declared.Verdict.TheVariants.{Refused}
+use Rattle.refusal.specs.Table.{Verdict}
+use Rattle.refusal.specs.Table.{Refused}
 use Rattle.ring_rules.specs.Answers.{step_of}
 use Rattle.ring_rules.specs.Driver.{drive_of, reason_number, reason_verdict}
 use Rattle.ring_rules.specs.Soundness.{sound_test}
 use Rattle.ring_rules.specs.Start.{start_of}
 use Rattle.ring_rules.specs.State.{State}
-use Rattle.ring_rules.specs.declared.Reason.{Reason}
-use Rattle.ring_rules.specs.declared.Reason.TheVariants.{Stopped}
+use Rattle.ring_rules.specs.Driver.{Reason}
+use Rattle.ring_rules.specs.Driver.{Stopped}
 
 pub record Lent : Type 0 where
   pub n : ℕ

@@ -5,8 +5,8 @@ use Rattle.flag_bytes.specs.Flags.{byte_of}
 use Rattle.laws.specs.Places.{all_to}
 use Rattle.refusal.specs.Table.{code_of, settle}
 use Rattle.refusal.specs.declared.Refusal.TheVariants.{Unsound}
-use Rattle.refusal.specs.declared.Verdict.{Verdict}
-use Rattle.refusal.specs.declared.Verdict.TheVariants.{Refused}
+use Rattle.refusal.specs.Table.{Verdict}
+use Rattle.refusal.specs.Table.{Refused}
 use Rattle.table_rules.specs.Answers.{Ask, names, slot_after, verdict_on}
 use Rattle.table_rules.specs.Soundness.{sound_table_test}
 use Rattle.table_rules.specs.Table.{NotStarted, Slot, Started, Table, slot_at, slot_of}

@@ -4,8 +4,8 @@ use Rattle.decimal.specs.Text.{put}
 use Rattle.flag_bytes.specs.Flags.{are_flags, byte_of, bytes_of, flag_of, flags_of, is_flag}
 use Rattle.refusal.specs.Table.{code_of, settle}
 use Rattle.refusal.specs.declared.Refusal.TheVariants.{Unsound}
-use Rattle.refusal.specs.declared.Verdict.{Verdict}
-use Rattle.refusal.specs.declared.Verdict.TheVariants.{Refused}
+use Rattle.refusal.specs.Table.{Verdict}
+use Rattle.refusal.specs.Table.{Refused}
 use Rattle.tree_rules.specs.Answers.{step_of}
 use Rattle.tree_rules.specs.Soundness.{sound_test}
 use Rattle.tree_rules.specs.Start.{start_of}

@@ -1,7 +1,7 @@
 -- The equations of the panel's contracts, by what the code found. Assumes nothing.
 use Prim.Native.Nat.{suc, zero, ℕ}
 use borrow.Author.Tests.{leb-true}
-use mathlib.Core.Bool.{◌&&◌, false, true}
+use mathlib.Core.Bool.{◌&&◌, true}
 use mathlib.Core.List.{List}
 use mathlib.Core.Logic.{inl, inr}
 use mathlib.Core.Path.{◌∙◌, ◌≡◌, ap, refl, sym}
@@ -10,21 +10,20 @@ use Rattle.flag_bytes.proofs.Laws.{flags_back, narrow_same, truths_back}
 use Rattle.flag_bytes.specs.Flags.{are_flags, bytes_of}
 use Rattle.flag_bytes.specs.Narrow.{kind_byte}
 use Rattle.laws.proofs.Tests.{both, both_true}
-use Rattle.lent.proofs.Ring.{ring_back, ring_held, with_nodes}
-use Rattle.lent.specs.Ring.{Lent, lent_of, truths_test}
-use Rattle.lent_panel.specs.Panel.{AskedTo, EnteredTo, LentPanel, ask_verdict, is_record, lent_panel_of, panel_in, panel_truths, record_of}
+use Rattle.lent.proofs.Ring.{ring_back, ring_held}
+use Rattle.lent.specs.Ring.{truths_test}
+use Rattle.lent_panel.specs.Panel.{AskedTo, LentPanel, ask_verdict, is_record, lent_panel_of, panel_in, panel_truths, record_of}
 use Rattle.panel_rules.proofs.Theorems.{answer_is, panel_answered, panel_unread, start_answered}
-use Rattle.panel_rules.specs.Answers.{Answer, enter_of}
+use Rattle.panel_rules.specs.Answers.{Answer}
 use Rattle.panel_rules.specs.Asks.{Ask, Start, after, answer_on, step_ask, verdict_on}
 use Rattle.panel_rules.specs.State.{Panel, nodes, record_number}
-use Rattle.panel_rules.specs.declared.Record.{Record}
-use Rattle.panel_rules.specs.declared.Record.TheVariants.{Empty, New, Old}
+use Rattle.panel_rules.specs.declared.record.Record.{Record}
+use Rattle.panel_rules.specs.declared.record.Record.TheVariants.{Empty, New, Old}
 use Rattle.panel_runs.proofs.Trace.{n_after}
 use Rattle.refusal.specs.Table.{code_of, settle}
 use Rattle.refusal.specs.declared.Refusal.{Refusal}
-use Rattle.refusal.specs.declared.Refusal.TheVariants.{Unsound}
-use Rattle.refusal.specs.declared.Verdict.{Verdict}
-use Rattle.refusal.specs.declared.Verdict.TheVariants.{Accepted, Refused}
+use Rattle.refusal.specs.Table.{Verdict}
+use Rattle.refusal.specs.Table.{Accepted, Refused}
 
 -- ---- the fields of a panel
 
@@ -80,19 +79,12 @@ panel_back l f =
 -- ---- what requests leave
 
 -- no request changes the number of nodes
-pub nodes_kept : (p : Panel) (a : Ask) → nodes (answer_on p a).panel ≡ nodes p
+pub nodes_kept : (p : Panel) (a : Ask) → nodes (answer_on p a).state ≡ nodes p
 nodes_kept p a = go (verdict_on p a) refl
   where
-    go : (v : Verdict) → verdict_on p a ≡ v → nodes (answer_on p a).panel ≡ nodes p
+    go : (v : Verdict) → verdict_on p a ≡ v → nodes (answer_on p a).state ≡ nodes p
     go Accepted e = ap nodes (panel_answered.next p a e) ∙ n_after p a e
     go (Refused x) e = ap nodes (panel_answered.same p a x e)
-
--- ---- entering
-
-pub entered_to :
-    {nodes number : ℕ} {flags : List ℕ} {before after : LentPanel} (a : Answer) → a ≡ enter_of nodes flags → number ≡ code_of a.verdict
-    → after ≡ settle a.verdict (lent_panel_of a.panel) before → EnteredTo nodes flags number before after
-entered_to a e t h = record { told = rw (← e) t; fields = rw (← e) h }
 
 -- ---- a start or a step
 
@@ -108,22 +100,15 @@ verdict_told p a = ap (λ (x : Answer). x.verdict) (answer_is p a)
 
 by_ask :
     (l : LentPanel) (a : Ask) (number : ℕ) (after : LentPanel) (w : Verdict) → ask_verdict l a ≡ w → number ≡ code_of w
-    → after ≡ settle w (lent_panel_of (answer_on (panel_in l) a).panel) l → AskedTo l a number after
+    → after ≡ settle w (lent_panel_of (answer_on (panel_in l) a).state) l → AskedTo l a number after
 by_ask l a number after w e t f =
     record {
       told = t ∙ sym (ap code_of e);
-      fields = f ∙ sym (ap (λ (v : Verdict). settle v (lent_panel_of (answer_on (panel_in l) a).panel) l) e);
+      fields = f ∙ sym (ap (λ (v : Verdict). settle v (lent_panel_of (answer_on (panel_in l) a).state) l) e);
     }
 
-pub ask_unflagged : {l : LentPanel} {a : Ask} {number : ℕ} → panel_truths l ≡ false → number ≡ 3 → AskedTo l a number l
-ask_unflagged {l} {a} {number} f t = by_ask l a number l (Refused Unsound) (rw f) t refl
-
--- fields with another number of nodes
-abbrev pub with_panel_nodes : ℕ → LentPanel → LentPanel
-with_panel_nodes n s = record { ring = with_nodes n s.ring; firmware = s.firmware; map = s.map; recorded = s.recorded }
-
 module _ (l : LentPanel) (a : Ask) (p : Panel) (x : Answer) (e : p ≡ panel_in l) (q : x ≡ answer_on p a) (f : panel_truths l ≡ true) where
-  answered : x ≡ answer_on (panel_in l) a
+  pub answered : x ≡ answer_on (panel_in l) a
   answered = q ∙ ap (λ (y : Panel). answer_on y a) e
 
   judged : ask_verdict l a ≡ x.verdict
@@ -132,44 +117,21 @@ module _ (l : LentPanel) (a : Ask) (p : Panel) (x : Answer) (e : p ≡ panel_in 
   pub ask_refused : {number : ℕ} {r : Refusal} → x.verdict ≡ Refused r → number ≡ code_of x.verdict → AskedTo l a number l
   ask_refused {number} {r} v t = by_ask l a number l (Refused r) (judged ∙ v) (t ∙ ap code_of v) refl
 
-  accepted : (after : LentPanel) → x.verdict ≡ Accepted → after ≡ lent_panel_of x.panel → AskedTo l a 0 after
-  accepted after v h = by_ask l a 0 after Accepted (judged ∙ v) refl (h ∙ ap (λ (y : Answer). lent_panel_of y.panel) answered)
+  pub accepted : (after : LentPanel) → x.verdict ≡ Accepted → after ≡ lent_panel_of x.state → AskedTo l a 0 after
+  accepted after v h = by_ask l a 0 after Accepted (judged ∙ v) refl (h ∙ ap (λ (y : Answer). lent_panel_of y.state) answered)
 
   -- the number of nodes that lies there is the next panel's
-  nodes_there : l.ring.n ≡ nodes x.panel
-  nodes_there = sym (ap (λ (y : Answer). nodes y.panel) answered ∙ nodes_kept (panel_in l) a)
-
-  -- the fields `s` in which the next panel lies, but for the number of nodes
-  pub ask_accepted : (s : LentPanel) → x.verdict ≡ Accepted → s ≡ lent_panel_of x.panel → AskedTo l a 0 (with_panel_nodes l.ring.n s)
-  ask_accepted s v h = accepted (with_panel_nodes l.ring.n s) v (λ z. with_panel_nodes (nodes_there z) (h z))
+  pub nodes_there : l.ring.n ≡ nodes x.state
+  nodes_there = sym (ap (λ (y : Answer). nodes y.state) answered ∙ nodes_kept (panel_in l) a)
 
 -- ---- a start, which leaves both columns of marks
 
 pub marks_left :
     (l : LentPanel) (n : ℕ) (flags : List ℕ) → panel_truths l ≡ true
-    → (bytes_of (answer_on (panel_in l) (Start n flags)).panel.firmware ≡ l.firmware)
-    × (bytes_of (answer_on (panel_in l) (Start n flags)).panel.map ≡ l.map)
+    → (bytes_of (answer_on (panel_in l) (Start n flags)).state.firmware ≡ l.firmware)
+    × (bytes_of (answer_on (panel_in l) (Start n flags)).state.map ≡ l.map)
 marks_left l n flags f =
     let t = truths_of l f in (
       ap bytes_of (start_answered.firmware (panel_in l) n flags) ∙ flags_back l.firmware t.firmware,
       ap bytes_of (start_answered.map (panel_in l) n flags) ∙ flags_back l.map t.map,
     )
-
--- the fields of l with another ring and record
-abbrev pub with_ring : LentPanel → Lent → ℕ → LentPanel
-with_ring l r recorded = record { ring = with_nodes l.ring.n r; firmware = l.firmware; map = l.map; recorded = recorded }
-
--- the fields `s` in which the next panel's ring lies, but for the number of nodes
-pub start_accepted :
-    (l : LentPanel) (n : ℕ) (flags : List ℕ) (p : Panel) (x : Answer) → p ≡ panel_in l → x ≡ answer_on p (Start n flags) → panel_truths l ≡ true
-    → (s : Lent) (k : ℕ) → x.verdict ≡ Accepted → s ≡ lent_of x.panel.ring → k ≡ record_number x.panel.recorded
-    → AskedTo l (Start n flags) 0 (with_ring l s k)
-start_accepted l n flags p x e q f s k v h w =
-    let a = Start n flags in
-    let m = marks_left l n flags f in
-    let same = answered l a p x e q f in
-    let firmware : l.firmware ≡ bytes_of x.panel.firmware = sym (ap (λ (y : Answer). bytes_of y.panel.firmware) same ∙ m.0) in
-    let map : l.map ≡ bytes_of x.panel.map = sym (ap (λ (y : Answer). bytes_of y.panel.map) same ∙ m.1) in
-    let n_there = nodes_there l a p x e q f in
-    accepted l a p x e q f (with_ring l s k) v
-    (λ z. record { ring = with_nodes (n_there z) (h z); firmware = firmware z; map = map z; recorded = w z })

@@ -21,14 +21,14 @@ use Rattle.panel_rules.specs.Answers.{Answer, enter_of}
 use Rattle.panel_rules.specs.Asks.{Ask, Start, Step, answer_on, panel, verdict_on}
 use Rattle.panel_rules.specs.Soundness.{Sound, sound_test}
 use Rattle.panel_rules.specs.State.{Panel, record_number, word_of}
-use Rattle.panel_rules.specs.declared.Record.{Record}
+use Rattle.panel_rules.specs.declared.record.Record.{Record}
 use Rattle.panel_runs.proofs.WholeRun.{whole_runs}
 use Rattle.panel_runs.specs.WholeRun.{Point}
 use Rattle.refusal.proofs.Table.{code_accepted, not_both}
 use Rattle.refusal.specs.Table.{settle, code_of}
 use Rattle.refusal.specs.declared.Refusal.TheVariants.{Unsound}
-use Rattle.refusal.specs.declared.Verdict.{Verdict}
-use Rattle.refusal.specs.declared.Verdict.TheVariants.{Accepted, Refused}
+use Rattle.refusal.specs.Table.{Verdict}
+use Rattle.refusal.specs.Table.{Accepted, Refused}
 use Rattle.ring_runs.specs.Counts.{kind}
 use Rattle.runs.specs.Runs.{next, run_of}
 
@@ -48,10 +48,10 @@ judged false v p = absurd (not_both p refl)
 
 -- what the next panel has as the lent fields have it is left, whatever the answer
 left_as : {A : Type 0} (f : LentPanel → A) (l : LentPanel) (a : Ask)
-    → (panel_truths l ≡ true → f (lent_panel_of (answer_on (panel_in l) a).panel) ≡ f l) → f (ask_fields l a) ≡ f l
+    → (panel_truths l ≡ true → f (lent_panel_of (answer_on (panel_in l) a).state) ≡ f l) → f (ask_fields l a) ≡ f l
 left_as f l a h = go (ask_verdict l a) refl
   where
-    go : (v : Verdict) → ask_verdict l a ≡ v → f (settle v (lent_panel_of (answer_on (panel_in l) a).panel) l) ≡ f l
+    go : (v : Verdict) → ask_verdict l a ≡ v → f (settle v (lent_panel_of (answer_on (panel_in l) a).state) l) ≡ f l
     go Accepted e = h (judged (panel_truths l) (verdict_on (panel_in l) a) e).0
     go (Refused r) e = refl
 
@@ -135,13 +135,13 @@ module _ (p : Panel) (a : Ask) where
       rw (panel_held p).0
       (ap (λ (q : Panel). code_of (verdict_on q a)) (panel_held p).1 ∙ sym (ap code_of (verdict_told p a)))
 
-  fields_of : ask_fields (lent_panel_of p) a ≡ lent_panel_of (answer_on p a).panel
+  fields_of : ask_fields (lent_panel_of p) a ≡ lent_panel_of (answer_on p a).state
   fields_of =
       rw (panel_held p).0
-      (ap (λ (q : Panel). settle (verdict_on q a) (lent_panel_of (answer_on q a).panel) (lent_panel_of p)) (panel_held p).1
+      (ap (λ (q : Panel). settle (verdict_on q a) (lent_panel_of (answer_on q a).state) (lent_panel_of p)) (panel_held p).1
       ∙ go (verdict_on p a) refl)
     where
-      go : (v : Verdict) → verdict_on p a ≡ v → settle v (lent_panel_of (answer_on p a).panel) (lent_panel_of p) ≡ lent_panel_of (answer_on p a).panel
+      go : (v : Verdict) → verdict_on p a ≡ v → settle v (lent_panel_of (answer_on p a).state) (lent_panel_of p) ≡ lent_panel_of (answer_on p a).state
       go Accepted e = refl
       go (Refused r) e = sym (ap lent_panel_of (panel_answered.same p a r e))
 
@@ -164,7 +164,7 @@ calls_run : (p : Panel) (ls : List Ask) → fields_after (lent_panel_of p) ls �
 unfolding fields_after run_of
 calls_run p [] = refl
 calls_run p (a ∷ ls) =
-    ap (λ (l : LentPanel). fields_after l ls) (fields_of p a ∙ ap (λ (x : Answer). lent_panel_of x.panel) (answer_is p a))
+    ap (λ (l : LentPanel). fields_after l ls) (fields_of p a ∙ ap (λ (x : Answer). lent_panel_of x.state) (answer_is p a))
     ∙ calls_run (next panel p a) ls
 
 nodes_after : (l : LentPanel) (ls : List Ask) → (fields_after l ls).ring.n ≡ l.ring.n
@@ -226,6 +226,6 @@ whole_panel_calls =
       entered = λ {nodes} {flags} s.
           let v = code_accepted (enter_of nodes flags).verdict (sym s.told) in (
             panel_sound_left.enter s,
-            ap panel_in (s.fields ∙ settled (enter_of nodes flags).verdict _ _ v) ∙ (panel_held (enter_of nodes flags).panel).1,
+            ap panel_in (s.fields ∙ settled (enter_of nodes flags).verdict _ _ v) ∙ (panel_held (enter_of nodes flags).state).1,
           );
     }

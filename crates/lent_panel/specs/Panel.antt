@@ -7,12 +7,12 @@ use Rattle.panel_rules.specs.Answers.{enter_of}
 use Rattle.panel_rules.specs.Asks.{Ask, answer_on, verdict_on}
 use Rattle.panel_rules.specs.Soundness.{sound_test}
 use Rattle.panel_rules.specs.State.{Panel, record_number}
-use Rattle.panel_rules.specs.declared.Record.{Record}
-use Rattle.panel_rules.specs.declared.Record.TheVariants.{Empty, New, Old}
+use Rattle.panel_rules.specs.declared.record.Record.{Record}
+use Rattle.panel_rules.specs.declared.record.Record.TheVariants.{Empty, New, Old}
 use Rattle.refusal.specs.Table.{code_of, settle}
 use Rattle.refusal.specs.declared.Refusal.TheVariants.{Unsound}
-use Rattle.refusal.specs.declared.Verdict.{Verdict}
-use Rattle.refusal.specs.declared.Verdict.TheVariants.{Refused}
+use Rattle.refusal.specs.Table.{Verdict}
+use Rattle.refusal.specs.Table.{Refused}
 
 pub record LentPanel : Type 0 where
   pub ring : Lent
@@ -68,7 +68,7 @@ enter_number nodes flags = code_of (enter_of nodes flags).verdict
 
 -- those of the first panel; where entering is refused, `same`, which were lent
 abbrev pub enter_fields : ℕ → List ℕ → LentPanel → LentPanel
-enter_fields nodes flags same = settle (enter_of nodes flags).verdict (lent_panel_of (enter_of nodes flags).panel) same
+enter_fields nodes flags same = settle (enter_of nodes flags).verdict (lent_panel_of (enter_of nodes flags).state) same
 
 pub record EnteredTo (nodes : ℕ) (flags : List ℕ) (number : ℕ) (before after : LentPanel) : Type 0 where
   pub told : number ≡ enter_number nodes flags
@@ -89,7 +89,7 @@ ask_number l a = code_of (ask_verdict l a)
 
 -- those of the next panel; where the request is refused, those that were lent
 abbrev pub ask_fields : LentPanel → Ask → LentPanel
-ask_fields l a = settle (ask_verdict l a) (lent_panel_of (answer_on (panel_in l) a).panel) l
+ask_fields l a = settle (ask_verdict l a) (lent_panel_of (answer_on (panel_in l) a).state) l
 
 pub record AskedTo (l : LentPanel) (a : Ask) (number : ℕ) (after : LentPanel) : Type 0 where
   pub told : number ≡ ask_number l a

@@ -55,10 +55,10 @@ pub record PanelCallsAnswer : Type 0 where
   pub enter :
       {nodes number : ℕ} {flags : List ℕ} {before after : LentPanel} → EnteredTo nodes flags number before after
       → (number ≡ code_of (enter_of nodes flags).verdict)
-      × (after ≡ settle (enter_of nodes flags).verdict (lent_panel_of (enter_of nodes flags).panel) before)
+      × (after ≡ settle (enter_of nodes flags).verdict (lent_panel_of (enter_of nodes flags).state) before)
   pub ask :
       (p : Panel) {a : Ask} {number : ℕ} {after : LentPanel} → AskedTo (lent_panel_of p) a number after
-      → (number ≡ code_of (answer_on p a).verdict) × (after ≡ lent_panel_of (answer_on p a).panel)
+      → (number ≡ code_of (answer_on p a).verdict) × (after ≡ lent_panel_of (answer_on p a).state)
   pub sound : (p : Panel) → panel_sound_number (lent_panel_of p) ≡ byte_of (sound_test p)
 
 -- After the starts and steps ls on the fields l of a panel: they are a run of the panel.
@@ -83,4 +83,4 @@ pub record WholePanelCalls : Type 0 where
   pub calls : (l : LentPanel) → panel_sound_number l ≡ 1 → (ls : List Ask) → PanelCalls l ls
   pub entered :
       {nodes : ℕ} {flags : List ℕ} {before after : LentPanel} → EnteredTo nodes flags 0 before after
-      → (panel_sound_number after ≡ 1) × (panel_in after ≡ (enter_of nodes flags).panel)
+      → (panel_sound_number after ≡ 1) × (panel_in after ≡ (enter_of nodes flags).state)

@@ -13,8 +13,8 @@ use Rattle.lent.proofs.Sound.{fields_hold}
 use Rattle.lent.specs.Ring.{Lent, drive_fields, drive_moves, drive_number, lent_of, step_fields, step_number}
 use Rattle.refusal.proofs.Table.{number_range}
 use Rattle.refusal.specs.Table.{code_of, settle}
-use Rattle.refusal.specs.declared.Verdict.{Verdict}
-use Rattle.refusal.specs.declared.Verdict.TheVariants.{Accepted}
+use Rattle.refusal.specs.Table.{Verdict}
+use Rattle.refusal.specs.Table.{Accepted}
 use Rattle.refusal.specs.declared.Refusal.{Refusal}
 use Rattle.ring_rules.proofs.Driver.{drive_closed, drive_over, may_rule, move_open}
 use Rattle.ring_rules.proofs.Accepted.{Rule, accepted, announces, conclusive-true}
@@ -24,7 +24,7 @@ use Rattle.ring_rules.specs.Driver.{Driven, drive_of, may_move, move_limit, move
 use Rattle.ring_rules.specs.Rules.{Announce, Kind, Pass, Probe, effect, kind_of}
 use Rattle.ring_rules.specs.Soundness.{Open, Sound}
 use Rattle.ring_rules.specs.State.{State}
-use Rattle.ring_rules.specs.declared.Reason.TheVariants.{Stopped}
+use Rattle.ring_rules.specs.Driver.{Stopped}
 use Rattle.ring_rules.specs.Theorems.{Drives, Ended, TokenMove, concluded, passing, probing, spends, waits}
 use Rattle.ring_runs.proofs.Trace.{run_sound}
 use Rattle.ring_runs.proofs.WholeRun.{whole_runs}

@@ -16,8 +16,8 @@ use Rattle.lent.specs.Ring.{lent_of, state_of, truths_test}
 use Rattle.lent.specs.Table.{Eight, LentTable, ask_fields, ask_number, fields_at, place_truths, table_in, table_truths}
 use Rattle.refusal.proofs.Table.{number_range}
 use Rattle.refusal.specs.Table.{code_of, number_of, settle}
-use Rattle.refusal.specs.declared.Verdict.{Verdict}
-use Rattle.refusal.specs.declared.Verdict.TheVariants.{Accepted, Refused}
+use Rattle.refusal.specs.Table.{Verdict}
+use Rattle.refusal.specs.Table.{Accepted, Refused}
 use Rattle.ring_rules.specs.State.{State}
 use Rattle.runs.specs.Runs.{run_of}
 use Rattle.table_rules.proofs.Keeps.{after_own, taken}

@@ -15,8 +15,8 @@ use Rattle.lent.specs.Tree.{LentTree, lent_tree_of, tree_of, tree_step_number, t
 use Rattle.refusal.proofs.Table.{code_accepted}
 use Rattle.refusal.specs.Table.{code_of}
 use Rattle.refusal.specs.declared.Refusal.TheVariants.{Unsound}
-use Rattle.refusal.specs.declared.Verdict.{Verdict}
-use Rattle.refusal.specs.declared.Verdict.TheVariants.{Accepted, Refused}
+use Rattle.refusal.specs.Table.{Verdict}
+use Rattle.refusal.specs.Table.{Accepted, Refused}
 use Rattle.runs.proofs.Runs.{run_of_lem}
 use Rattle.runs.specs.Runs.{Request, accepted_of, run_of}
 use Rattle.table_rules.proofs.Theorems.{non_interference, table_kept, table_tested}

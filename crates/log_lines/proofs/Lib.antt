@@ -1,2 +1,7 @@
 pub mod Ends
-pub mod Parts
+pub mod Firsts
+pub mod Rings
+pub mod Tables
+pub mod Trees
+pub mod Turns
+pub mod Waiting

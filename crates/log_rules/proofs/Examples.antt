@@ -6,7 +6,7 @@ use Rattle.decimal.specs.Text.{decimal, digits}
 use Rattle.decimal.specs.Word.{starts}
 use Rattle.first_line.specs.Read.{entries_of, entry_of, first_at, lists_at, ring_after, root_after, start_at, tree_after}
 use Rattle.forms.specs.Form.{line}
-use Rattle.forms.specs.Read.{closed_of, ends_line, lined, made_of, one_of, read_by, ring_at, second_of, spaced_of, tree_at, two_of}
+use Rattle.forms.specs.Read.{closed_at, closed_of, ends_line, lined, made_of, one_of, read_by, ring_at, second_of, spaced_of, tree_at, two_of}
 use Rattle.laws.specs.Sums.{count_to, sum_to}
 use Rattle.ring_rules.specs.Answers.{answer_of, verdict_of}
 use Rattle.ring_rules.specs.Rules.{conclusive, may_pass, may_probe}
@@ -35,5 +35,5 @@ use Rattle.tree_rules.specs.Termination.{acks_total}
 use Rattle.tree_text.specs.Text.{children_text, list_text, node_text}
 
 pub examples_hold : ExamplesHold
-unfolding scan_of checked number.number_at kept_of digits decimal starts line spaced_of closed_of one_of second_of two_of made_of read_by ends_line lined ring_at tree_at entry_of entries_of read.active_read read.black_read read.after_active read.after_black lists_at ring_after root_after tree_after start_at first_at space_after opened_of inner_of closed_read inside_at update_at wrapped_at nodes_to fixed sound_table_test verdict_on answer_on ends_to line_told split lines_told rest_of verdict_of answer_of conclusive may_probe may_pass shape_test range_test flow_test sum_test passive_above white_to gathered_test safra_test unused_test closed_test sound_test active_from color_from first_state in_transit black_nodes is_black blackened whitened ◌⊖◌ is_positive is_zero is_same count_to outputs expected tree.verdict_of tree.answer_of may_leave tree_rules.conclusive sound.shape_test sound.range_test engager_test chain_test balance_test rest_test pair_test place_test limit_test sound.closed_test sound.sound_test tree_start.first_state tree_start.start_verdict messages_from children climb acks_total sum_to children_text node_text list_text
+unfolding scan_of checked number.number_at kept_of digits decimal starts line spaced_of closed_at closed_of one_of second_of two_of made_of read_by ends_line lined ring_at tree_at entry_of entries_of read.active_read read.black_read lists_at ring_after root_after tree_after start_at first_at space_after opened_of inner_of closed_read inside_at update_at wrapped_at nodes_to fixed sound_table_test verdict_on answer_on ends_to line_told split lines_told rest_of verdict_of answer_of conclusive may_probe may_pass shape_test range_test flow_test sum_test passive_above white_to gathered_test safra_test unused_test closed_test sound_test active_from color_from first_state in_transit black_nodes is_black blackened whitened ◌⊖◌ is_positive is_zero is_same count_to outputs expected tree.verdict_of tree.answer_of may_leave tree_rules.conclusive sound.shape_test sound.range_test engager_test chain_test balance_test rest_test pair_test place_test limit_test sound.closed_test sound.sound_test tree_start.first_state tree_start.start_verdict messages_from children climb acks_total sum_to children_text node_text list_text
 examples_hold = refl

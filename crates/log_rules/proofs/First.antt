@@ -10,10 +10,10 @@ use mathlib.Core.Path.{◌∙◌, ◌≡◌, refl, subst⁻¹, sym}
 use native.Mathlib.Decide.{dec_lt}
 use native.Mathlib.Omega.{arith}
 use Rattle.first_line.specs.Meaning.{Flags}
-use Rattle.first_line.specs.declared.First.{First}
+use Rattle.first_line.specs.declared.RingStart.{RingStart}
 use Rattle.refusal.specs.Table.{◌⟶◌, first_of}
 use Rattle.refusal.specs.declared.Refusal.TheVariants.{NodeCount, UnknownNode, UnknownUpdate}
-use Rattle.refusal.specs.declared.Verdict.TheVariants.{Accepted}
+use Rattle.refusal.specs.Table.{Accepted}
 use Rattle.ring_rules.proofs.Start.{Fits, accepted_start}
 use Rattle.ring_rules.specs.Start.{start_table, start_verdict}
 use Rattle.table_rules.proofs.Theorems.{table_tested}
@@ -22,7 +22,7 @@ use Rattle.table_rules.specs.Soundness.{SoundTable}
 use Rattle.table_rules.specs.Table.{Table}
 use Rattle.log_rules.specs.Answers.{update_ask, update_table}
 
-pub flags_fit : (f : First) → 0 < f.n → f.n ≤ 96 → Flags f.flags → Fits f.n (take f.n f.flags)
+pub flags_fit : (f : RingStart) → 0 < f.n → f.n ≤ 96 → Flags f.flags → Fits f.n (take f.n f.flags)
 flags_fit f lo hi g = record {
   some_node = lo;
   nodes = hi;
@@ -34,7 +34,7 @@ started : (n : ℕ) (flags : List ℕ) → Fits n flags → first_of (start_tabl
 unfolding start_verdict
 started n flags fit = accepted_start n flags fit
 
-module _ (f : First) (g : Flags f.flags) (many : f.n ≤ 96) where
+module _ (f : RingStart) (g : Flags f.flags) (many : f.n ≤ 96) where
   abbrev flags : List ℕ
   flags = take f.n f.flags
 

@@ -1,4 +1,5 @@
 -- A line read where it begins is answered as the line by itself; whole lines one after the other. Assumes nothing.
+use Rattle.std.specs.Prelude.{Some, None}
 use Prim.Native.Nat.{◌+◌, ◌<◌, ◌≤◌, ℕ}
 use lib.ListN.{drop, length, length-append, length-drop}
 use lib.Seq.{drop-drop}
@@ -12,10 +13,8 @@ use Rattle.decimal.specs.Text.{put}
 use Rattle.forms.proofs.Lines.{line_rest}
 use Rattle.forms.proofs.Steps.{ring_exact, ring_not, tree_exact, tree_not}
 use Rattle.forms.specs.Form.{Form, SaysAt, form_text, line, ring_form, tree_form}
-use Rattle.forms.specs.Read.{Read, other, read, ring_at, tree_at}
-use Rattle.forms.specs.declared.RingLine.{RingLine}
+use Rattle.forms.specs.Read.{Read, read, ring_at, tree_at}
 use Rattle.forms.specs.declared.RingStep.{RingStep}
-use Rattle.forms.specs.declared.TreeLine.{TreeLine}
 use Rattle.forms.specs.declared.TreeStep.{TreeStep}
 use Rattle.log_rules.proofs.Cuts.{rest_line}
 use Rattle.log_rules.proofs.Ends.{ended_long, form_ended, line_twice}
@@ -29,8 +28,6 @@ use Rattle.update_forms.specs.Read.{wrapped_at}
 use Rattle.update_forms.specs.Wrapped.{Wrapped, bare, lists, step, wrapped_form}
 use Rattle.ring_rules.specs.State as ring
 use Rattle.tree_rules.specs.State as tree
-use Rattle.forms.specs.declared.RingLine.TheVariants as ring_line
-use Rattle.forms.specs.declared.TreeLine.TheVariants as tree_line
 
 -- ---- what the recognisers say of a line inside a piece
 
@@ -38,22 +35,22 @@ pub ring_in_place : (r : ring.State) (m k : ℕ) (s : List ℕ) (at : ℕ) → r
 unfolding line_told
 ring_in_place r m k s at = go (ring_at s at) refl
   where
-    go : (x : RingLine) → ring_at s at ≡ x → ring_told r m k x ≡ ring_told r m k (ring_at (line (drop at s)) 0)
-    go (ring_line.Step f e) p =
+    go : (x : Read RingStep) → ring_at s at ≡ x → ring_told r m k x ≡ ring_told r m k (ring_at (line (drop at s)) 0)
+    go (Some (f, e)) p =
         let q = (ring_exact s at f e).0 p in
         rw ((ring_exact (line (drop at s)) 0 f (0 + length (form_text (ring_form f)))).1 ((line_twice (drop at s) ∙ q.0.0, q.0.1), refl))
-    go ring_line.NotAForm p =
+    go None p =
         rw ((ring_not (line (drop at s)) 0).1 (λ f h. (ring_not s at).0 p f (sym (line_twice (drop at s)) ∙ h.0, h.1)))
 
 pub tree_in_place : (t : tree.State) (k : ℕ) (s : List ℕ) (at : ℕ) → tree_told t k (tree_at s at) ≡ line_told (on_tree t) k (line (drop at s))
 unfolding line_told
 tree_in_place t k s at = go (tree_at s at) refl
   where
-    go : (x : TreeLine) → tree_at s at ≡ x → tree_told t k x ≡ tree_told t k (tree_at (line (drop at s)) 0)
-    go (tree_line.Step f e) p =
+    go : (x : Read TreeStep) → tree_at s at ≡ x → tree_told t k x ≡ tree_told t k (tree_at (line (drop at s)) 0)
+    go (Some (f, e)) p =
         let q = (tree_exact s at f e).0 p in
         rw ((tree_exact (line (drop at s)) 0 f (0 + length (form_text (tree_form f)))).1 ((line_twice (drop at s) ∙ q.0.0, q.0.1), refl))
-    go tree_line.NotAForm p =
+    go None p =
         rw ((tree_not (line (drop at s)) 0).1 (λ f h. (tree_not s at).0 p f (sym (line_twice (drop at s)) ∙ h.0, h.1)))
 
 -- where a wrapped line ends has no part in its answer
@@ -68,11 +65,11 @@ unfolding line_told
 table_in_place t ms k s at = go (wrapped_at s at) refl
   where
     go : (x : Read Wrapped) → wrapped_at s at ≡ x → table_told t ms k x ≡ table_told t ms k (wrapped_at (line (drop at s)) 0)
-    go (read w e) p =
+    go (Some (w, e)) p =
         let q = (wrapped_exact s at w e).0 p in
         rw ((wrapped_exact (line (drop at s)) 0 w (0 + length (form_text (wrapped_form w)))).1 ((line_twice (drop at s) ∙ q.0.0, q.0.1), refl))
         (same_told t ms k w e (0 + length (form_text (wrapped_form w))))
-    go other p =
+    go None p =
         rw ((wrapped_other (line (drop at s)) 0).1 (λ w h. (wrapped_other s at).0 p w (sym (line_twice (drop at s)) ∙ h.0, h.1)))
 
 -- a step that was read is a whole line, and ends where its line ends
@@ -83,11 +80,11 @@ says_ended s at f e h = (
 )
 
 pub ring_ended :
-    (s : List ℕ) (at : ℕ) (f : RingStep) (e : ℕ) → ring_at s at ≡ ring_line.Step f e → OneLine (line (drop at s)) × (e ≡ at + length (line (drop at s)))
+    (s : List ℕ) (at : ℕ) (f : RingStep) (e : ℕ) → ring_at s at ≡ read f e → OneLine (line (drop at s)) × (e ≡ at + length (line (drop at s)))
 ring_ended s at f e p = says_ended s at (ring_form f) e ((ring_exact s at f e).0 p)
 
 pub tree_ended :
-    (s : List ℕ) (at : ℕ) (f : TreeStep) (e : ℕ) → tree_at s at ≡ tree_line.Step f e → OneLine (line (drop at s)) × (e ≡ at + length (line (drop at s)))
+    (s : List ℕ) (at : ℕ) (f : TreeStep) (e : ℕ) → tree_at s at ≡ read f e → OneLine (line (drop at s)) × (e ≡ at + length (line (drop at s)))
 tree_ended s at f e p = says_ended s at (tree_form f) e ((tree_exact s at f e).0 p)
 
 pub table_ended :

@@ -1,4 +1,5 @@
 -- The statements of specs/Theorems.antt, proved. Assumes nothing.
+use Rattle.std.specs.Prelude.{None}
 use Prim.Native.Nat.{◌+◌, ◌<◌, ◌≤◌, ℕ}
 use borrow.Author.Tests.{eqb-false, eqb-true}
 use lib.Dec.{eqb}
@@ -11,10 +12,10 @@ use native.Mathlib.Omega.{arith}
 use Rattle.first_line.proofs.Once.{grammar}
 use Rattle.first_line.proofs.Opens.{first_exact, first_other}
 use Rattle.first_line.specs.Read.{first_at}
-use Rattle.first_line.specs.Start.{Start, seen, start_form}
+use Rattle.first_line.specs.Start.{Start, start_form}
 use Rattle.forms.proofs.Steps.{ring_exact, ring_not, tree_exact, tree_not}
 use Rattle.forms.specs.Form.{Form, Says, ack, announce, bare_ring, form_text, idle, leave, line, pass, probe, ring_form, ring_with, send, take_one, take_with, tree_form, tree_of, update}
-use Rattle.forms.specs.Read.{Read, other, read}
+use Rattle.forms.specs.Read.{read}
 use Rattle.forms.specs.declared.RingStep.{RingStep}
 use Rattle.forms.specs.declared.TreeStep.{TreeStep}
 use Rattle.laws.proofs.Tests.{false_true}
@@ -28,7 +29,7 @@ use Rattle.update_forms.specs.Wrapped.{Wrapped, bare, inner_form, lists, step, u
 use Rattle.log_rules.proofs.Cuts.{long_told, split-take, unended_told}
 use Rattle.log_rules.proofs.Ends.{ended_append, ended_itself, ended_long, form_ended, unended_append}
 use Rattle.log_rules.proofs.InPlace.{same_told}
-use Rattle.log_rules.specs.Answers.{answer_text, first_told, fresh, fresh_told, line_told, on_ring, on_table, ring_step_told, table_told, update_first}
+use Rattle.log_rules.specs.Answers.{answer_text, fresh, line_told, on_ring, on_table, ring_step_told, table_told, update_first}
 use Rattle.log_rules.specs.Lines.{line_limit, split}
 use Rattle.log_rules.specs.Output.{lines_told, rest_of}
 use Rattle.log_rules.specs.Pieces.{OneLine, PartLine, empty, newline}
@@ -49,11 +50,6 @@ says_itself f l o s = (sym (ended_itself o) ∙ s.0, s.1)
 -- a line says one form
 pub same_form : (l : List ℕ) (f g : Form) → Says l f → Says l g → f ≡ g
 same_form l f g s t = grammar.once f g s.1 t.1 (sym s.0 ∙ t.0)
-
-seen_told : (f : Start) (e : ℕ) (w : Read Wrapped) → fresh_told (seen f e).kind (seen f e) w ≡ first_told (seen f 0).kind (seen f 0)
-seen_told (Start.bare n) e w = refl
-seen_told (Start.lists n active black) e w = refl
-seen_told (Start.tree n root) e w = refl
 
 first_end : (w : Wrapped) (e : ℕ) → update_first (read w e) ≡ update_first (read w 0)
 first_end (step u f) e = refl
@@ -85,7 +81,7 @@ start_bare (Start.tree n root) = refl
 pub start_or_wrapped : (l : List ℕ) (f : Start) (w : Wrapped) → Says l (start_form f) → Says l (wrapped_form w) → ⊥
 start_or_wrapped l f w s t = false_true (sym (start_bare f) ∙ ap is_wrapped (same_form l (start_form f) (wrapped_form w) s t))
 
-first_wrapped : (l : List ℕ) (w : Wrapped) → Says (line l) (wrapped_form w) → first_at l 0 ≡ other
+first_wrapped : (l : List ℕ) (w : Wrapped) → Says (line l) (wrapped_form w) → first_at l 0 ≡ None
 first_wrapped l w t = (first_other l 0).1 (λ f s. start_or_wrapped (line l) f w s t)
 
 past : Wrapped → ℕ
@@ -141,7 +137,7 @@ not_bare l f u g b s t = false_true (sym b ∙ ap is_wrapped (same_form (line l)
 pub lines_say : LinesSay
 unfolding line_told
 lines_say = record {
-  first = λ k l f s. rw ((first_exact l 0 f (0 + length (form_text (start_form f)))).1 (says_first (start_form f) l s, refl)) (seen_told f _ _);
+  first = λ k l f s. rw ((first_exact l 0 f (0 + length (form_text (start_form f)))).1 (says_first (start_form f) l s, refl));
   first_update = λ k l w s. let t = says_first (wrapped_form w) l s in rw (first_wrapped l w t, wrapped_read l w t) (first_end w (past w));
   first_other = λ k l o h g.
       rw (

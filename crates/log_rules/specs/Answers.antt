@@ -1,20 +1,18 @@
--- Document 01, "The log program": the answer to a line, and the end line.
-use Rattle.std.specs.Prelude.{◌+◌, suc, zero, ℕ, leb, ltb, get_or, replicate, set, take, Bool, ◌&&◌, cond, false, not, true, List, [], ◌++◌, ◌∷◌}
+-- The log program: the answer to a line, and the end line.
+use Rattle.std.specs.Prelude.{◌+◌, suc, zero, ℕ, leb, ltb, get_or, replicate, set, take, Bool, ◌&&◌, cond, false, not, true, List, [], ◌++◌, ◌∷◌, Some, None}
 use Rattle.decimal.specs.Bytes.{bytes}
 use Rattle.decimal.specs.Text.{decimal}
 use Rattle.first_line.specs.Read.{first_at}
-use Rattle.first_line.specs.Start.{seen, seen_of}
+use Rattle.first_line.specs.Start.{bare_start, lists_start, seen_of}
 use Rattle.first_line.specs.declared.First.{First}
-use Rattle.first_line.specs.declared.FirstKind.{FirstKind}
-use Rattle.forms.specs.Read.{Read, other, read, ring_at, tree_at}
-use Rattle.forms.specs.declared.RingLine.{RingLine}
+use Rattle.first_line.specs.declared.RingStart.{RingStart}
+use Rattle.forms.specs.Read.{Read, ring_at, tree_at}
 use Rattle.forms.specs.declared.RingStep.{RingStep}
-use Rattle.forms.specs.declared.TreeLine.{TreeLine}
 use Rattle.forms.specs.declared.TreeStep.{TreeStep}
 use Rattle.refusal.specs.Table.{Row, ◌⟶◌, first_of, is_accepted, number_of, settle}
 use Rattle.refusal.specs.declared.Refusal.TheVariants.{NodeCount, NotAForm, UnknownNode, UnknownUpdate}
-use Rattle.refusal.specs.declared.Verdict.{Verdict}
-use Rattle.refusal.specs.declared.Verdict.TheVariants.{Accepted, Refused}
+use Rattle.refusal.specs.Table.{Verdict}
+use Rattle.refusal.specs.Table.{Accepted, Refused}
 use Rattle.ring_rules.specs.State.{black_nodes, in_transit}
 use Rattle.runs.specs.Runs.{Request}
 use Rattle.table_rules.specs.Answers.{Ask, Start, Step, after, answer_on, other_nodes}
@@ -23,7 +21,6 @@ use Rattle.tree_rules.specs.Termination.{acks_total}
 use Rattle.tree_text.specs.Write.{state_text}
 use Rattle.update_forms.specs.Read.{wrapped_at}
 use Rattle.update_forms.specs.Wrapped.{Wrapped, bare, lists, step}
-use Rattle.first_line.specs.Start as first
 use Rattle.ring_rules.specs.State as ring
 use Rattle.ring_rules.specs.Start as ring_start
 use Rattle.ring_rules.specs.Answers as ring_answers
@@ -32,9 +29,7 @@ use Rattle.tree_rules.specs.Start as tree_start
 use Rattle.tree_rules.specs.Answers as tree_answers
 use Rattle.forms.specs.declared.RingStep.TheVariants as ring_step
 use Rattle.forms.specs.declared.TreeStep.TheVariants as tree_step
-use Rattle.forms.specs.declared.RingLine.TheVariants as ring_line
-use Rattle.forms.specs.declared.TreeLine.TheVariants as tree_line
-use Rattle.first_line.specs.declared.FirstKind.TheVariants as line
+use Rattle.first_line.specs.declared.First.TheVariants as line
 
 -- what a log has come to: nothing is read yet; a ring's run, with its accepted token moves; a tree's run; a table's run, with those of each
 -- update since its latest start; or the first line was refused, and nothing more is answered
@@ -69,7 +64,7 @@ ring_end_by last r m =
 abbrev pub ring_end : ring.State → ℕ → List ℕ
 ring_end = ring_end_by (bytes "))\n")
 
--- Q-1: "at the end each started update prints `(update 2 (end ..))`"
+-- at the end each started update prints `(update 2 (end ..))`
 abbrev pub update_end : ℕ → Slot → ℕ → List ℕ
 update_end u NotStarted m = []
 update_end u (Started r) m = bytes "(update " ++ (decimal u ++ (bytes " " ++ ring_end_by (bytes ")))\n") r m))
@@ -103,7 +98,7 @@ pub record Told : Type 0 where
   pub text : List ℕ
 
 -- a first line that begins a ring: its number of nodes, then the nodes that its lists name
-abbrev pub ring_table : First → List Row
+abbrev pub ring_table : RingStart → List Row
 ring_table f =
     (not (ltb 0 f.n && leb f.n 96) ⟶ NodeCount)
     ∷ (ltb f.n f.top ⟶ UnknownNode)
@@ -114,17 +109,16 @@ opened_by Accepted s = record { stage = s; text = answer_text 1 Accepted }
 opened_by (Refused e) s = record { stage = over; text = answer_text 1 (Refused e) }
 
 -- what a first line says begins the run, or is refused
-abbrev pub first_told : FirstKind → First → Told
-first_told line.Ring f = opened_by (first_of (ring_table f)) (on_ring (ring_start.first_state f.n (take f.n f.flags)) 0)
-first_told line.Tree f = opened_by (tree_start.start_verdict f.n f.root) (on_tree (tree_start.first_state f.n f.root))
-first_told line.NotAForm f = opened_by (Refused NotAForm) fresh
+abbrev pub first_told : First → Told
+first_told (line.Ring f) = opened_by (first_of (ring_table f)) (on_ring (ring_start.first_state f.n (take f.n f.flags)) 0)
+first_told (line.Tree n root) = opened_by (tree_start.start_verdict n root) (on_tree (tree_start.first_state n root))
 
--- Q-1: a start of update u in a log: 13, 1 where n is fixed and this is another, and then what a ring's first line is asked
-abbrev pub update_table : Table → ℕ → First → List Row
+-- a start of update u in a log: 13 where there is no update u, 1 where n is fixed and this is another, and then what a ring's first line is asked
+abbrev pub update_table : Table → ℕ → RingStart → List Row
 update_table t u f = (not (ltb u 8) ⟶ UnknownUpdate) ∷ (other_nodes t f.n ⟶ NodeCount) ∷ ring_table f
 
 -- what it asks of the table
-abbrev pub update_ask : ℕ → First → Ask
+abbrev pub update_ask : ℕ → RingStart → Ask
 update_ask u f = Start u f.n (take f.n f.flags)
 
 -- no token move of any update
@@ -132,22 +126,21 @@ abbrev pub no_moves : List ℕ
 no_moves = replicate 8 0
 
 -- "If the first line is such a start, every line is wrapped"
-abbrev pub update_opened : ℕ → First → Told
+abbrev pub update_opened : ℕ → RingStart → Told
 update_opened u f = opened_by (first_of (update_table empty_table u f)) (on_table (after empty_table (update_ask u f)) no_moves)
 
 -- what a first line begins that is no ring's and no tree's
 abbrev pub update_first : Read Wrapped → Told
-update_first (read (step u f) e) = opened_by (Refused NotAForm) fresh
-update_first (read (bare u n) e) = update_opened u (seen (first.bare n) e)
-update_first (read (lists u n active black) e) = update_opened u (seen (first.lists n active black) e)
-update_first other = opened_by (Refused NotAForm) fresh
+update_first (Some (step u f, e)) = opened_by (Refused NotAForm) fresh
+update_first (Some (bare u n, e)) = update_opened u (bare_start n)
+update_first (Some (lists u n active black, e)) = update_opened u (lists_start n active black)
+update_first None = opened_by (Refused NotAForm) fresh
 
-abbrev pub fresh_told : FirstKind → First → Read Wrapped → Told
-fresh_told line.Ring f w = first_told line.Ring f
-fresh_told line.Tree f w = first_told line.Tree f
-fresh_told line.NotAForm f w = update_first w
+abbrev pub fresh_told : Read First → Read Wrapped → Told
+fresh_told (Some (f, e)) w = first_told f
+fresh_told None w = update_first w
 
--- the kind number and the numbers of a step. Document 02, Q-2: "`(take 2 5)` is new and `(take 2)` means one"
+-- the kind number and the numbers of a step: `(take 2)` takes one message
 abbrev pub ring_request : RingStep → Request
 ring_request (ring_step.Send i j) = record { kind = 1; i = i; j = j }
 ring_request (ring_step.TakeOne i) = record { kind = 2; i = i; j = 1 }
@@ -205,7 +198,7 @@ update_step_told t ms k u f =
     }
 
 -- a start of update u: its moves are counted afresh
-abbrev pub update_start_told : Table → List ℕ → ℕ → ℕ → First → Told
+abbrev pub update_start_told : Table → List ℕ → ℕ → ℕ → RingStart → Told
 update_start_told t ms k u f =
     let v = first_of (update_table t u f) in
     record {
@@ -215,24 +208,24 @@ update_start_told t ms k u f =
 
 -- line k of a table's run
 abbrev pub table_told : Table → List ℕ → ℕ → Read Wrapped → Told
-table_told t ms k (read (step u f) e) = update_step_told t ms k u f
-table_told t ms k (read (bare u n) e) = update_start_told t ms k u (seen (first.bare n) e)
-table_told t ms k (read (lists u n active black) e) = update_start_told t ms k u (seen (first.lists n active black) e)
-table_told t ms k other = record { stage = on_table t ms; text = answer_text k (Refused NotAForm) }
+table_told t ms k (Some (step u f, e)) = update_step_told t ms k u f
+table_told t ms k (Some (bare u n, e)) = update_start_told t ms k u (bare_start n)
+table_told t ms k (Some (lists u n active black, e)) = update_start_told t ms k u (lists_start n active black)
+table_told t ms k None = record { stage = on_table t ms; text = answer_text k (Refused NotAForm) }
 
 -- line k of a ring's run: "words of the other watch, and a second start, are 10"
-abbrev pub ring_told : ring.State → ℕ → ℕ → RingLine → Told
-ring_told r m k (ring_line.Step f e) = ring_step_told r m k f
-ring_told r m k ring_line.NotAForm = record { stage = on_ring r m; text = answer_text k (Refused NotAForm) }
+abbrev pub ring_told : ring.State → ℕ → ℕ → Read RingStep → Told
+ring_told r m k (Some (f, e)) = ring_step_told r m k f
+ring_told r m k None = record { stage = on_ring r m; text = answer_text k (Refused NotAForm) }
 
 -- line k of a tree's run
-abbrev pub tree_told : tree.State → ℕ → TreeLine → Told
-tree_told t k (tree_line.Step f e) = tree_step_told t k f
-tree_told t k tree_line.NotAForm = record { stage = on_tree t; text = answer_text k (Refused NotAForm) }
+abbrev pub tree_told : tree.State → ℕ → Read TreeStep → Told
+tree_told t k (Some (f, e)) = tree_step_told t k f
+tree_told t k None = record { stage = on_tree t; text = answer_text k (Refused NotAForm) }
 
 -- line k of a log. What the recognisers answer of a line is what the line says (`LinesSay`, Theorems.antt).
 unfoldable pub line_told : Stage → ℕ → List ℕ → Told
-line_told fresh k l = fresh_told (seen_of (first_at l 0)).kind (seen_of (first_at l 0)) (wrapped_at l 0)
+line_told fresh k l = fresh_told (seen_of (first_at l 0)) (wrapped_at l 0)
 line_told (on_ring r m) k l = ring_told r m k (ring_at l 0)
 line_told (on_tree t) k l = tree_told t k (tree_at l 0)
 line_told (on_table t ms) k l = table_told t ms k (wrapped_at l 0)

@@ -1,9 +1,9 @@
--- Document 01, "The log program": a log that comes in pieces, cut anywhere.
+-- A log that comes in pieces, cut anywhere.
 use Rattle.std.specs.Prelude.{◌*◌, ◌+◌, ◌≤◌, ℕ, eqb, leb, drop, get_or, length, replicate, take, Bool, cond, false, true, List, [], ◌++◌, ◌∷◌, ◌≡◌}
 use Rattle.decimal.specs.Text.{put}
 use Rattle.forms.specs.Form.{line_bytes}
 use Rattle.refusal.specs.declared.Refusal.TheVariants.{NotAForm}
-use Rattle.refusal.specs.declared.Verdict.TheVariants.{Refused}
+use Rattle.refusal.specs.Table.{Refused}
 use Rattle.log_rules.specs.Answers.{Stage, Told, answer_bytes, answer_text, fresh, on_ring, on_table, on_tree, opened_by, over}
 use Rattle.log_rules.specs.Lines.{line_limit}
 use Rattle.log_rules.specs.Output.{rest_of}
@@ -54,10 +54,6 @@ pub record Went (s s' : Stage) (k k' next next' at at' : ℕ) (piece out out' : 
   pub room : length written + next * answer_bytes ≤ next' * answer_bytes
   pub inside : next' ≤ length piece
   pub counts : k' ≤ line_limit
-
--- a turn that goes nowhere stands before a line that is not whole
-abbrev pub Onward : ℕ → ℕ → List ℕ → Type 0
-Onward next next' piece = next' ≡ next → has_line (drop next piece) ≡ false
 
 -- no further line of the piece is to be answered: all are, or the next is not whole
 pub data NoMore (k next : ℕ) (piece : List ℕ) : Type 0 where

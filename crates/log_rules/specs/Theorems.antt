@@ -29,10 +29,10 @@ update_take_told t ms k u i n =
     let a = answer_on t (step_ask u 2 i n) in
     record { stage = on_table a.table ms; text = answer_text k a.verdict }
 
--- Demand 1 for a line of a log: one that says a form is carried out as what it says; every other line is refused with 10, and changes
+-- What a line of a log is answered: one that says a form is carried out as what it says; every other line is refused with 10, and changes
 -- nothing.
 pub record LinesSay : Type 0 where
-  pub first : (k : ℕ) (l : List ℕ) (f : Start) → Says l (start_form f) → line_told fresh k l ≡ first_told (seen f 0).kind (seen f 0)
+  pub first : (k : ℕ) (l : List ℕ) (f : Start) → Says l (start_form f) → line_told fresh k l ≡ first_told (seen f)
   pub first_update : (k : ℕ) (l : List ℕ) (w : Wrapped) → Says l (wrapped_form w) → line_told fresh k l ≡ update_first (read w 0)
   pub first_other :
       (k : ℕ) (l : List ℕ) → OneLine l → ((f : Start) → Says l (start_form f) → ⊥) → ((w : Wrapped) → Says l (wrapped_form w) → ⊥)
@@ -53,14 +53,14 @@ pub record LinesSay : Type 0 where
   pub update_other :
       (t : Table) (ms : List ℕ) (k : ℕ) (l : List ℕ) → OneLine l → ((w : Wrapped) → Says l (wrapped_form w) → ⊥)
       → line_told (on_table t ms) k l ≡ not_told (on_table t ms) k
-  -- Document 02, Q-1: "If the first line is such a start, every line is wrapped; else the log is read as before": a line of the other sort is 10
+  -- if the first line is a wrapped start, every line is wrapped, and otherwise none is: a line of the other sort is 10
   pub ring_wrapped :
       (r : ring.State) (m k : ℕ) (l : List ℕ) (u : ℕ) (f : Form) → Says l (update u f) → line_told (on_ring r m) k l ≡ not_told (on_ring r m) k
   pub tree_wrapped : (t : tree.State) (k : ℕ) (l : List ℕ) (u : ℕ) (f : Form) → Says l (update u f) → line_told (on_tree t) k l ≡ not_told (on_tree t) k
   pub update_bare :
       (t : Table) (ms : List ℕ) (k : ℕ) (l : List ℕ) (f : Form) → ((u : ℕ) (g : Form) → f ≢ update u g) → Says l f
       → line_told (on_table t ms) k l ≡ not_told (on_table t ms) k
-  -- Document 02, Q-2: "`(take 2 5)` is new and `(take 2)` means one", on a ring and inside an update
+  -- `(take 2 5)` takes five messages and `(take 2)` one, on a ring and inside an update
   pub take_many : (r : ring.State) (m k : ℕ) (l : List ℕ) (i n : ℕ) → Says l (take_with i n) → line_told (on_ring r m) k l ≡ take_told r m k i n
   pub take_one_told : (r : ring.State) (m k : ℕ) (l : List ℕ) (i : ℕ) → Says l (take_one i) → line_told (on_ring r m) k l ≡ take_told r m k i 1
   pub update_take_many :

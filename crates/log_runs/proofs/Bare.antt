@@ -24,8 +24,8 @@ use Rattle.log_rules.specs.Output.{lines_told}
 use Rattle.log_rules.specs.Pieces.{OneLine, not_told}
 use Rattle.refusal.specs.Table.{◌⟶◌, first_of, settle}
 use Rattle.refusal.specs.declared.Refusal.TheVariants.{NodeCount, UnknownUpdate}
-use Rattle.refusal.specs.declared.Verdict.{Verdict}
-use Rattle.refusal.specs.declared.Verdict.TheVariants.{Accepted}
+use Rattle.refusal.specs.Table.{Verdict}
+use Rattle.refusal.specs.Table.{Accepted}
 use Rattle.ring_rules.proofs.Start.{active_at_node, color_at, fits}
 use Rattle.ring_rules.proofs.Theorems.{start_answered}
 use Rattle.ring_rules.specs.Rules.{Announce, Idle, Kind, Pass, Probe, Send, Take, Unknown}

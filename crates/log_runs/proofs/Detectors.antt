@@ -1,14 +1,13 @@
 -- The steps of the ring and of the tree, as the lines of a log say them. Assumes nothing.
+use Rattle.std.specs.Prelude.{Some, None}
 use Prim.Native.Nat.{ℕ}
 use mathlib.Core.List.{List}
 use mathlib.Core.Logic.{◌⊎◌, inl, inr}
 use mathlib.Core.Path.{◌∙◌, ◌≡◌, ap, refl, sym}
 use Rattle.forms.proofs.Steps.{ring_exact, ring_not, ring_once, tree_exact, tree_not, tree_once}
 use Rattle.forms.specs.Form.{Says, announce, ring_form, tree_form}
-use Rattle.forms.specs.Read.{ring_at, tree_at}
-use Rattle.forms.specs.declared.RingLine.{RingLine}
+use Rattle.forms.specs.Read.{Read, ring_at, tree_at}
 use Rattle.forms.specs.declared.RingStep.{RingStep}
-use Rattle.forms.specs.declared.TreeLine.{TreeLine}
 use Rattle.forms.specs.declared.TreeStep.{TreeStep}
 use Rattle.laws.proofs.Tests.{false_true}
 use Rattle.log_rules.proofs.Theorems.{lines_say, says_first, says_itself}
@@ -18,9 +17,7 @@ use mathlib.Core.Bool.{Bool, ◌&&◌, cond, false, true}
 use Rattle.runs.specs.Runs.{Request}
 use Rattle.log_runs.proofs.Runs.{Answers, Reads, Steps}
 use Rattle.log_runs.specs.Says.{Ask, RingAsks, TreeAsks, cut, move_by, other, says}
-use Rattle.forms.specs.declared.RingLine.TheVariants as ring_line
 use Rattle.forms.specs.declared.RingStep.TheVariants as ring_step
-use Rattle.forms.specs.declared.TreeLine.TheVariants as tree_line
 use Rattle.forms.specs.declared.TreeStep.TheVariants as tree_step
 use Rattle.ring_rules.specs.Answers as RingAnswers
 use Rattle.ring_rules.specs.State as ring_state
@@ -56,9 +53,9 @@ ring_only ring_step.Announce e = refl
 pub ring_read : (l : List ℕ) → OneLine l → ((f : RingStep) × Says l (ring_form f)) ⊎ ((f : RingStep) → Says l (ring_form f) → ⊥)
 ring_read l o = go (ring_at l 0) refl
   where
-    go : (x : RingLine) → ring_at l 0 ≡ x → ((f : RingStep) × Says l (ring_form f)) ⊎ ((f : RingStep) → Says l (ring_form f) → ⊥)
-    go (ring_line.Step f e) p = inl (f, says_itself (ring_form f) l o ((ring_exact l 0 f e).0 p).0)
-    go ring_line.NotAForm p = inr (λ f s. (ring_not l 0).0 p f (says_first (ring_form f) l s))
+    go : (x : Read RingStep) → ring_at l 0 ≡ x → ((f : RingStep) × Says l (ring_form f)) ⊎ ((f : RingStep) → Says l (ring_form f) → ⊥)
+    go (Some (f, e)) p = inl (f, says_itself (ring_form f) l o ((ring_exact l 0 f e).0 p).0)
+    go None p = inr (λ f s. (ring_not l 0).0 p f (says_first (ring_form f) l s))
 
 abbrev pub ring_reads : Reads RingStep Request
 ring_reads = record {
@@ -103,9 +100,9 @@ tree_only tree_step.Announce e = refl
 pub tree_read : (l : List ℕ) → OneLine l → ((f : TreeStep) × Says l (tree_form f)) ⊎ ((f : TreeStep) → Says l (tree_form f) → ⊥)
 tree_read l o = go (tree_at l 0) refl
   where
-    go : (x : TreeLine) → tree_at l 0 ≡ x → ((f : TreeStep) × Says l (tree_form f)) ⊎ ((f : TreeStep) → Says l (tree_form f) → ⊥)
-    go (tree_line.Step f e) p = inl (f, says_itself (tree_form f) l o ((tree_exact l 0 f e).0 p).0)
-    go tree_line.NotAForm p = inr (λ f s. (tree_not l 0).0 p f (says_first (tree_form f) l s))
+    go : (x : Read TreeStep) → tree_at l 0 ≡ x → ((f : TreeStep) × Says l (tree_form f)) ⊎ ((f : TreeStep) → Says l (tree_form f) → ⊥)
+    go (Some (f, e)) p = inl (f, says_itself (tree_form f) l o ((tree_exact l 0 f e).0 p).0)
+    go None p = inr (λ f s. (tree_not l 0).0 p f (says_first (tree_form f) l s))
 
 abbrev pub tree_reads : Reads TreeStep Request
 tree_reads = record {

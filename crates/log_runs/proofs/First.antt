@@ -1,4 +1,5 @@
 -- What a line asks for, and what a first line begins. Assumes nothing.
+use Rattle.std.specs.Prelude.{Some, None}
 use Prim.Native.Nat.{◌+◌, ◌<◌, ◌≤◌, suc, zero, ℕ}
 use borrow.Author.Tests.{le-leb, le-ltb, leb-true, lt-leb, lt-ltb, ltb-false, ltb-true}
 use lib.Dec.{leb, ltb}
@@ -15,7 +16,9 @@ use Rattle.first_line.proofs.Opens.{first_exact, first_other}
 use Rattle.first_line.specs.Meaning.{Below, Means, every_node, flag_byte, named}
 use Rattle.first_line.specs.Read.{first_at}
 use Rattle.first_line.specs.Start.{Start, bare, lists, ring_first, seen, start_form, tree}
-use Rattle.first_line.specs.declared.First.{First}
+use Rattle.first_line.specs.declared.RingStart.{RingStart}
+use Rattle.first_line.specs.declared.First.TheVariants.{Ring}
+use Rattle.decimal.proofs.Cases.{same_read}
 use Rattle.forms.specs.Form.{Form, Says, form_text}
 use Rattle.forms.specs.Read.{Read}
 use Rattle.laws.proofs.Tests.{both, both_true, false_true, split}
@@ -27,8 +30,8 @@ use Rattle.log_rules.specs.Pieces.{OneLine, PartLine}
 use Rattle.refusal.proofs.Table.{not_both}
 use Rattle.refusal.specs.Table.{Row, ◌⟶◌, first_of}
 use Rattle.refusal.specs.declared.Refusal.TheVariants.{NodeCount, UnknownNode, UnknownUpdate}
-use Rattle.refusal.specs.declared.Verdict.{Verdict}
-use Rattle.refusal.specs.declared.Verdict.TheVariants.{Accepted, Refused}
+use Rattle.refusal.specs.Table.{Verdict}
+use Rattle.refusal.specs.Table.{Accepted, Refused}
 use Rattle.table_rules.proofs.Soundness.{empty_sound}
 use Rattle.table_rules.proofs.Theorems.{table_answered, table_tested}
 use Rattle.table_rules.specs.Answers.{after, other_nodes, verdict_on}
@@ -75,20 +78,20 @@ pub first_asks : (l : List ℕ) → OneLine l → (a : StartAsk) × FirstAsks l 
 first_asks l o = go (first_at l 0) refl (wrapped_at l 0) refl
   where
     neither :
-        first_at l 0 ≡ read.other → wrapped_at l 0 ≡ read.other → (f : Start ⊎ Wrapped) → Says l (first_form f) → ⊥
+        first_at l 0 ≡ None → wrapped_at l 0 ≡ None → (f : Start ⊎ Wrapped) → Says l (first_form f) → ⊥
     neither p q (inl f) s = (first_other l 0).0 p f (says_first (start_form f) l s)
     neither p q (inr w) s = (wrapped_other l 0).0 q w (says_first (wrapped_form w) l s)
 
     go : (x : Read Start) → first_at l 0 ≡ x → (y : Read Wrapped) → wrapped_at l 0 ≡ y → (a : StartAsk) × FirstAsks l a
-    go (read.read f e) p y q = (meant (inl f), says (inl f) (says_itself (start_form f) l o ((first_exact l 0 f e).0 p).0))
-    go read.other p (read.read w e) q = (meant (inr w), says (inr w) (says_itself (wrapped_form w) l o ((wrapped_exact l 0 w e).0 q).0))
-    go read.other p read.other q = (no_start, other o (neither p q))
+    go (Some (f, e)) p y q = (meant (inl f), says (inl f) (says_itself (start_form f) l o ((first_exact l 0 f e).0 p).0))
+    go None p (Some (w, e)) q = (meant (inr w), says (inr w) (says_itself (wrapped_form w) l o ((wrapped_exact l 0 w e).0 q).0))
+    go None p None q = (no_start, other o (neither p q))
 
 start_once : (l : List ℕ) (f g : Start) → Says l (start_form f) → Says l (start_form g) → f ≡ g
 start_once l f g s t =
     let p = (first_exact l 0 f (0 + length (form_text (start_form f)))).1 (says_first (start_form f) l s, refl) in
     let q = (first_exact l 0 g (0 + length (form_text (start_form g)))).1 (says_first (start_form g) l t, refl) in
-    cc
+    (same_read (sym p ∙ q)).0
 
 pub wrapped_once : (l : List ℕ) (v w : Wrapped) → Says l (wrapped_form v) → Says l (wrapped_form w) → v ≡ w
 wrapped_once l v w s t = forms.wrapped_once v w s.1.0 t.1.0 (sym s.0 ∙ t.0)
@@ -218,7 +221,7 @@ opened_same Accepted e = ap (opened_by Accepted) (e refl)
 opened_same (Refused x) e = refl
 
 -- the top of a ring's lists is past n exactly if a node that they name is none
-top_known : (n : ℕ) (a b : List ℕ) {p : ℕ} {f : First} → Means p a b f → ltb n f.top ≡ not (known_by n a b)
+top_known : (n : ℕ) (a b : List ℕ) {p : ℕ} {f : RingStart} → Means p a b f → ltb n f.top ≡ not (known_by n a b)
 top_known n a b {f} m = go (known_by n a b) refl (split (ltb n f.top))
   where
     go : (k : Bool) → known_by n a b ≡ k → (ltb n f.top ≡ true) ⊎ (ltb n f.top ≡ false) → ltb n f.top ≡ not k
@@ -231,7 +234,7 @@ top_known n a b {f} m = go (known_by n a b) refl (split (ltb n f.top))
         absurd (false_true (sym e ∙ both_true ((below_test n a).1 w.0) ((below_test n b).1 w.1)))
 
 -- its flags are those of the lists
-flags_same : (a b : List ℕ) {f : First} → Means f.n a b f → f.n ≤ 96 → take f.n f.flags ≡ flags_to a b f.n
+flags_same : (a b : List ℕ) {f : RingStart} → Means f.n a b f → f.n ≤ 96 → take f.n f.flags ≡ flags_to a b f.n
 flags_same a b {f} m h =
     let len = length-take-le f.n f.flags (omega (arith, m.many)) in
     ext_get_or 0 (take f.n f.flags) (flags_to a b f.n) (len ∙ sym (flags_length a b f.n))
@@ -240,10 +243,10 @@ flags_same a b {f} m h =
     get_or-take f.n f.flags i 0 j ∙ (m.flag i j (omega arith) ∙ sym (flags_at a b f.n i j)))
 
 ring_told :
-    (n top e : ℕ) (flags a b : List ℕ) → Means n a b (ring_first n flags top e)
-    → first_told (ring_first n flags top e).kind (ring_first n flags top e)
+    (n top : ℕ) (flags a b : List ℕ) → Means n a b (ring_first n flags top)
+    → first_told (Ring (ring_first n flags top))
     ≡ opened_by (first_verdict (StartAsk.ring_start_ask n a b)) (begun (StartAsk.ring_start_ask n a b))
-ring_told n top e flags a b m =
+ring_told n top flags a b m =
     ap (λ (t : Bool). opened_by (first_of ((not (in_range 96 n) ⟶ NodeCount) ∷ (t ⟶ UnknownNode) ∷ [])) (on_ring (ring_start.first_state n (take n flags)) 0))
     (top_known n a b m)
     ∙ opened_same (first_verdict (StartAsk.ring_start_ask n a b)) same
@@ -274,16 +277,16 @@ tree_told n root =
 
 start_told :
     {l : List ℕ} (f : Start) → Says l (start_form f)
-    → first_told (seen f 0).kind (seen f 0) ≡ opened_by (first_verdict (meant (inl f))) (begun (meant (inl f)))
-start_told (bare n) s = ring_told n _ 0 _ (every_node n) [] (rings_mean.neither n 0)
-start_told (lists n a b) s = ring_told n _ 0 _ a b (nodes_mean n (rings_mean.both n a b 0 s.1.0.1 s.1.0.2))
+    → first_told (seen f) ≡ opened_by (first_verdict (meant (inl f))) (begun (meant (inl f)))
+start_told (bare n) s = ring_told n _ _ (every_node n) [] (rings_mean.neither n)
+start_told (lists n a b) s = ring_told n _ _ a b (nodes_mean n (rings_mean.both n a b s.1.0.1 s.1.0.2))
 start_told (tree n root) s = tree_told n root
 
 -- ---- a start of an update, as it was read
 
-module _ (t : Table) (u n top e : ℕ) (flags a b : List ℕ) (m : Means n a b (ring_first n flags top e)) where
-  abbrev seen_first : First
-  seen_first = ring_first n flags top e
+module _ (t : Table) (u n top : ℕ) (flags a b : List ℕ) (m : Means n a b (ring_first n flags top)) where
+  abbrev seen_first : RingStart
+  seen_first = ring_first n flags top
 
   pub update_rows : first_of (update_table t u seen_first) ≡ update_verdict t u n a b
   update_rows =
@@ -296,23 +299,23 @@ module _ (t : Table) (u n top e : ℕ) (flags a b : List ℕ) (m : Means n a b (
   update_after v = ap (λ (x : List ℕ). after t (table.Start u n x)) (flags_same a b m (update_passed t u n a b v).0)
 
 update_told :
-    (u n top e : ℕ) (flags a b : List ℕ) → Means n a b (ring_first n flags top e)
-    → update_opened u (ring_first n flags top e)
+    (u n top : ℕ) (flags a b : List ℕ) → Means n a b (ring_first n flags top)
+    → update_opened u (ring_first n flags top)
     ≡ opened_by (first_verdict (StartAsk.update_start u n a b)) (begun (StartAsk.update_start u n a b))
-update_told u n top e flags a b m =
-    ap (λ (v : Verdict). opened_by v (on_table (after empty_table (update_ask u (ring_first n flags top e))) no_moves))
-    (update_rows empty_table u n top e flags a b m)
+update_told u n top flags a b m =
+    ap (λ (v : Verdict). opened_by v (on_table (after empty_table (update_ask u (ring_first n flags top))) no_moves))
+    (update_rows empty_table u n top flags a b m)
     ∙ opened_same (first_verdict (StartAsk.update_start u n a b))
     (λ v.
     ap (λ (t : Table). on_table t no_moves)
-    (update_after empty_table u n top e flags a b m v ∙ sym (table_answered.next empty_table _ (update_accepted u n a b v))))
+    (update_after empty_table u n top flags a b m v ∙ sym (table_answered.next empty_table _ (update_accepted u n a b v))))
 
 wrapped_told :
     {l : List ℕ} (w : Wrapped) → Says l (wrapped_form w)
     → update_first (read.read w 0) ≡ opened_by (first_verdict (meant (inr w))) (begun (meant (inr w)))
 wrapped_told (wrapped.step u f) s = refl
-wrapped_told (wrapped.bare u n) s = update_told u n _ 0 _ (every_node n) [] (rings_mean.neither n 0)
-wrapped_told (wrapped.lists u n a b) s = update_told u n _ 0 _ a b (nodes_mean n (rings_mean.both n a b 0 s.1.0.1.1 s.1.0.1.2))
+wrapped_told (wrapped.bare u n) s = update_told u n _ _ (every_node n) [] (rings_mean.neither n)
+wrapped_told (wrapped.lists u n a b) s = update_told u n _ _ a b (nodes_mean n (rings_mean.both n a b s.1.0.1.1 s.1.0.1.2))
 
 pub first_line_is_told : (k : ℕ) {l : List ℕ} {a : StartAsk} → FirstAsks l a → line_told fresh k l ≡ opened_by (first_verdict a) (begun a)
 first_line_is_told k {l} (says (inl f) s) = lines_say.first k l f s ∙ start_told f s

@@ -17,8 +17,8 @@ use Rattle.log_rules.specs.Pieces.{OneLine, empty}
 use Rattle.log_rules.specs.Theorems.{LinesOf}
 use Rattle.refusal.proofs.Table.{not_both}
 use Rattle.refusal.specs.Table.{is_accepted, settle}
-use Rattle.refusal.specs.declared.Verdict.{Verdict}
-use Rattle.refusal.specs.declared.Verdict.TheVariants.{Accepted, Refused}
+use Rattle.refusal.specs.Table.{Verdict}
+use Rattle.refusal.specs.Table.{Accepted, Refused}
 use Rattle.runs.proofs.Runs.{accepted_append, run_append}
 use Rattle.runs.specs.Runs.{Accepts, Machine, Request, accepted_of, next, run_of}
 use Rattle.log_runs.proofs.First.{asks_once}

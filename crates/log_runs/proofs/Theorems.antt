@@ -1,4 +1,5 @@
 -- The statement of specs/Theorems.antt, proved. Assumes nothing.
+use Rattle.std.specs.Prelude.{Some, None}
 use Prim.Native.Nat.{◌+◌, suc, zero, ℕ}
 use borrow.Author.Tests.{leb-true, ltb-false, ltb-true, not-false}
 use lib.Dec.{leb, ltb}
@@ -10,17 +11,16 @@ use mathlib.Core.Path.{◌∙◌, ◌≡◌, ap, refl, subst, sym}
 use native.Mathlib.Nat.{add-zero}
 use native.Mathlib.Omega.{arith}
 use Rattle.first_line.specs.Read.{first_at}
-use Rattle.first_line.specs.Start.{seen, seen_of}
+use Rattle.first_line.specs.Start.{bare_start, lists_start, seen_of}
 use Rattle.first_line.specs.declared.First.{First}
-use Rattle.first_line.specs.declared.FirstKind.{FirstKind}
+use Rattle.first_line.specs.declared.RingStart.{RingStart}
 use Rattle.forms.specs.Form.{Says, announce}
 use Rattle.forms.specs.Read.{Read, ring_at, tree_at}
 use Rattle.first_line.specs.Meaning.{Flags}
-use Rattle.forms.specs.declared.RingLine.{RingLine}
 use Rattle.forms.specs.declared.RingStep.{RingStep}
-use Rattle.forms.specs.declared.TreeLine.{TreeLine}
+use Rattle.forms.specs.declared.TreeStep.{TreeStep}
 use Rattle.laws.proofs.Tests.{both}
-use Rattle.first_line.proofs.Flags.{one_flags, seen_flags}
+use Rattle.first_line.proofs.Flags.{ReadFlags, one_flags, seen_flags}
 use Rattle.log_rules.proofs.First.{flags_fit, update_is_judged}
 use Rattle.log_rules.proofs.Theorems.{lines_say}
 use Rattle.log_rules.specs.Answers.{Stage, Told, answer_text, first_told, fresh, fresh_told, is_move, line_told, no_moves, on_ring, on_table, on_tree, opened_by, ring_request, ring_table, ring_told, tree_request, tree_told, update_ask, update_first, update_opened, update_table}
@@ -30,8 +30,8 @@ use Rattle.refusal.proofs.Table.{none_holds, not_both}
 use Rattle.refusal.specs.Table.{NoneHolds, also, first_of, is_accepted, settle}
 use Rattle.refusal.specs.declared.Refusal.{Refusal}
 use Rattle.refusal.specs.declared.Refusal.TheVariants.{NotAForm}
-use Rattle.refusal.specs.declared.Verdict.{Verdict}
-use Rattle.refusal.specs.declared.Verdict.TheVariants.{Accepted, Refused}
+use Rattle.refusal.specs.Table.{Verdict}
+use Rattle.refusal.specs.Table.{Accepted, Refused}
 use Rattle.runs.specs.Runs.{Accepts, Request, accepted_of, next, run_of}
 use Rattle.tree_runs.specs.WholeRun.{steps_by}
 use Rattle.table_rules.proofs.Soundness.{empty_sound}
@@ -39,7 +39,7 @@ use Rattle.table_rules.proofs.Theorems.{table_answered, table_kept}
 use Rattle.table_rules.specs.Answers.{after}
 use Rattle.table_rules.specs.Soundness.{SoundTable}
 use Rattle.table_rules.specs.Table.{Table, empty_table}
-use Rattle.update_forms.proofs.Held.{wrapped_flags}
+use Rattle.update_forms.proofs.Held.{WrappedFlags, wrapped_flags}
 use Rattle.update_forms.specs.Read.{wrapped_at, wrapped_seen}
 use Rattle.update_forms.specs.Wrapped.{Wrapped}
 use Rattle.log_runs.proofs.Detectors.{move_is, no_move, ring_reads, tree_reads}
@@ -51,13 +51,9 @@ use Rattle.log_runs.specs.Says.{Ask, BegunOpen, Each, RingAsks, TreeAsks, cut, l
 use Rattle.log_runs.specs.Theorems.{LogRuns, Ok, RingCountdown}
 use Rattle.log_runs.specs.Updates.{UpdateAsk, UpdatesSay, moves_after, updates}
 use Rattle.log_rules.specs.Theorems as lines
-use Rattle.first_line.specs.Start as start
-use Rattle.forms.specs.Read as read
 use Rattle.update_forms.specs.Wrapped as wrapped
-use Rattle.first_line.specs.declared.FirstKind.TheVariants as line
-use Rattle.forms.specs.declared.RingLine.TheVariants as ring_line
+use Rattle.first_line.specs.declared.First.TheVariants as line
 use Rattle.forms.specs.declared.RingStep.TheVariants as ring_step
-use Rattle.forms.specs.declared.TreeLine.TheVariants as tree_line
 use Rattle.forms.specs.declared.TreeStep.TheVariants as tree_step
 use Rattle.ring_rules.proofs.Start as ring_start
 use Rattle.ring_rules.specs.Answers as ring_answers
@@ -257,13 +253,13 @@ ring_last r running m k j {xs = xs} c a l ok =
     go (ring_at l 0) (sym (ap (λ (q : Stage). (line_told q j l).text) (ring_state r m k c)) ∙ ok)
   where
     go :
-        (x : RingLine)
+        (x : Read RingStep)
         → (ring_told (run_of ring_counts.ring r xs) (m + moves_in (accepted_of ring_counts.ring r xs)) j x).text ≡ answer_text j Accepted → ⊥
-    go (ring_line.Step f e) p =
+    go (Some (f, e)) p =
         none_taken ((ring_counts.ring).verdict (run_of ring_counts.ring r xs) (ring_request f)) (ring_request f)
         (((ring_runs.whole_runs).point r running xs).last a (ring_request f ∷ []))
         (ok_accepted j ((ring_counts.ring).verdict (run_of ring_counts.ring r xs) (ring_request f)) p)
-    go ring_line.NotAForm p = not_ok j NotAForm p
+    go None p = not_ok j NotAForm p
 
 tree_last :
     (t : TreeState.State) → tree_sound.Open t → (k j : ℕ) {ls : List (List ℕ)} {xs : List Request} → TreeSays ls xs
@@ -272,12 +268,12 @@ unfolding line_told accepted_of tree_answers.answer_of
 tree_last t running k j {xs = xs} c a l ok =
     go (tree_at l 0) (sym (ap (λ (q : Stage). (line_told q j l).text) (tree_state t k c)) ∙ ok)
   where
-    go : (x : TreeLine) → (tree_told (run_of tree_counts.tree t xs) j x).text ≡ answer_text j Accepted → ⊥
-    go (tree_line.Step f e) p =
+    go : (x : Read TreeStep) → (tree_told (run_of tree_counts.tree t xs) j x).text ≡ answer_text j Accepted → ⊥
+    go (Some (f, e)) p =
         none_taken ((tree_counts.tree).verdict (run_of tree_counts.tree t xs) (tree_request f)) (tree_request f)
         (((tree_runs.whole_runs).point t running xs).last a (tree_request f ∷ []))
         (ok_accepted j ((tree_counts.tree).verdict (run_of tree_counts.tree t xs) (tree_request f)) p)
-    go tree_line.NotAForm p = not_ok j NotAForm p
+    go None p = not_ok j NotAForm p
 
 -- ---- the first line
 
@@ -287,7 +283,7 @@ asks (lines.another {l} o c) = first_asks l o
 
 -- the table that an accepted start begins
 opened_sound :
-    (u : ℕ) (g : First) → Flags g.flags → first_of (update_table empty_table u g) ≡ Accepted → SoundTable (after empty_table (update_ask u g))
+    (u : ℕ) (g : RingStart) → Flags g.flags → first_of (update_table empty_table u g) ≡ Accepted → SoundTable (after empty_table (update_ask u g))
 opened_sound u g flags e = go (none_holds (update_table empty_table u g) e)
   where
     go : NoneHolds (update_table empty_table u g) → SoundTable (after empty_table (update_ask u g))
@@ -298,25 +294,22 @@ opened_sound u g flags e = go (none_holds (update_table empty_table u g) e)
 
 first : (l : List ℕ) → BegunOpen (line_told fresh 1 l).stage
 unfolding line_told
-first l = go (seen_of (first_at l 0)).kind
+first l = go (seen_of (first_at l 0)) (seen_flags l 0)
   where
-    f : First
-    f = seen_of (first_at l 0)
-
-    ring_open : NoneHolds (ring_table f) → ring_sound.Open (ring_first.first_state f.n (take f.n f.flags))
-    ring_open (also p rest) =
+    ring_open : (f : RingStart) → Flags f.flags → NoneHolds (ring_table f) → ring_sound.Open (ring_first.first_state f.n (take f.n f.flags))
+    ring_open f flags (also p rest) =
         let w = both _ _ (not-false _ p) in
-        ring_start.first_open _ _ (flags_fit f (ltb-true _ _ w.0) (leb-true _ _ w.1) (seen_flags l 0))
+        ring_start.first_open _ _ (flags_fit f (ltb-true _ _ w.0) (leb-true _ _ w.1) flags)
 
-    ring : (v : Verdict) → first_of (ring_table f) ≡ v → BegunOpen (first_told line.Ring f).stage
-    ring Accepted e = rw e (ring_open (none_holds (ring_table f) e), refl)
-    ring (Refused x) e = rw e tt
+    ring : (f : RingStart) → Flags f.flags → (v : Verdict) → first_of (ring_table f) ≡ v → BegunOpen (first_told (line.Ring f)).stage
+    ring f flags Accepted e = rw e (ring_open f flags (none_holds (ring_table f) e), refl)
+    ring f flags (Refused x) e = rw e tt
 
-    tree : (v : Verdict) → tree_first.start_verdict f.n f.root ≡ v → BegunOpen (first_told line.Tree f).stage
-    tree Accepted e = rw e (tree_start.first_open f.n f.root (tree_start.fits f.n f.root e))
-    tree (Refused x) e = rw e tt
+    tree : (n root : ℕ) (v : Verdict) → tree_first.start_verdict n root ≡ v → BegunOpen (first_told (line.Tree n root)).stage
+    tree n root Accepted e = rw e (tree_start.first_open n root (tree_start.fits n root e))
+    tree n root (Refused x) e = rw e tt
 
-    update_open : (u : ℕ) (g : First) → Flags g.flags → BegunOpen (update_opened u g).stage
+    update_open : (u : ℕ) (g : RingStart) → Flags g.flags → BegunOpen (update_opened u g).stage
     update_open u g flags = by (first_of (update_table empty_table u g)) refl
       where
         by :
@@ -326,16 +319,16 @@ first l = go (seen_of (first_at l 0)).kind
         by (Refused x) e = tt
 
     update : (w : Read Wrapped) → wrapped_at l 0 ≡ w → BegunOpen (update_first w).stage
-    update (read.read (wrapped.step u h) e) p = tt
-    update (read.read (wrapped.bare u n) e) p = update_open u (seen (start.bare n) e) one_flags
-    update (read.read (wrapped.lists u n a b) e) p =
-        update_open u (seen (start.lists n a b) e) (subst (λ (w : Read Wrapped). Flags (wrapped_seen w).first.flags) p (wrapped_flags l 0))
-    update read.other p = tt
+    update (Some (wrapped.step u h, e)) p = tt
+    update (Some (wrapped.bare u n, e)) p = update_open u (bare_start n) one_flags
+    update (Some (wrapped.lists u n a b, e)) p =
+        update_open u (lists_start n a b) (subst (λ (w : Read Wrapped). WrappedFlags (wrapped_seen w)) p (wrapped_flags l 0))
+    update None p = tt
 
-    go : (k : FirstKind) → BegunOpen (fresh_told k f (wrapped_at l 0)).stage
-    go line.Ring = ring (first_of (ring_table f)) refl
-    go line.Tree = tree (tree_first.start_verdict f.n f.root) refl
-    go line.NotAForm = update (wrapped_at l 0) refl
+    go : (r : Read First) → ReadFlags r → BegunOpen (fresh_told r (wrapped_at l 0)).stage
+    go (Some (line.Ring f, e)) flags = ring f flags (first_of (ring_table f)) refl
+    go (Some (line.Tree n root, e)) flags = tree n root (tree_first.start_verdict n root) refl
+    go None flags = update (wrapped_at l 0) refl
 
 pub log_runs : LogRuns
 log_runs = record {

@@ -18,8 +18,8 @@ use Rattle.log_rules.specs.Output.{output_of}
 use Rattle.refusal.proofs.Table.{not_both}
 use Rattle.refusal.specs.Table.{code_of, is_accepted, settle}
 use Rattle.refusal.specs.declared.Refusal.TheVariants.{UnknownNode}
-use Rattle.refusal.specs.declared.Verdict.{Verdict}
-use Rattle.refusal.specs.declared.Verdict.TheVariants.{Accepted, Refused}
+use Rattle.refusal.specs.Table.{Verdict}
+use Rattle.refusal.specs.Table.{Accepted, Refused}
 use Rattle.ring_rules.specs.Start.{first_state}
 use Rattle.ring_rules.specs.State.{State}
 use Rattle.ring_rules.specs.Theorems.{TokenMove}

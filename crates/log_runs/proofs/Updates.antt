@@ -1,4 +1,5 @@
 -- The lines of updates: what they ask for, what is answered and what they lead to; they are requests to the table. Assumes nothing.
+use Rattle.std.specs.Prelude.{Some, None}
 use Prim.Native.Nat.{◌+◌, ◌<◌, ℕ}
 use borrow.Author.Tests.{eqb-false, eqb-true}
 use lib.Dec.{eqb}
@@ -21,8 +22,8 @@ use Rattle.log_rules.proofs.Theorems.{lines_say, says_first, says_itself}
 use Rattle.log_rules.specs.Answers.{Stage, Told, add_at, answer_text, is_move, line_told, on_table, ring_request, update_ask, update_start_told}
 use Rattle.log_rules.specs.Pieces.{OneLine}
 use Rattle.refusal.specs.Table.{is_accepted, settle}
-use Rattle.refusal.specs.declared.Verdict.{Verdict}
-use Rattle.refusal.specs.declared.Verdict.TheVariants.{Accepted, Refused}
+use Rattle.refusal.specs.Table.{Verdict}
+use Rattle.refusal.specs.Table.{Accepted, Refused}
 use Rattle.ring_rules.specs.Start.{first_state}
 use Rattle.ring_runs.specs.Counts.{kind}
 use Rattle.runs.specs.Runs.{Request, accepted_of, next, run_of}
@@ -41,7 +42,6 @@ use Rattle.log_runs.proofs.Detectors.{move_is, no_move}
 use Rattle.log_runs.specs.First.{flags_to, known_by, update_verdict}
 use Rattle.log_runs.specs.Says.{Ask, Each, cut, line, move_by, moves_in, no_line, other, requests_in, says, stage_after}
 use Rattle.log_runs.specs.Updates.{UpdateAsk, UpdateAsks, ask_of, moved, moves_after, start, step, table_ask, to_table, updates, verdict_of}
-use Rattle.forms.specs.Read as read
 use Rattle.table_rules.specs.Answers as asks
 use Rattle.update_forms.specs.Wrapped as wrapped
 
@@ -49,8 +49,8 @@ pub wrapped_read : (l : List ℕ) → OneLine l → ((w : Wrapped) × Says l (wr
 wrapped_read l o = go (wrapped_at l 0) refl
   where
     go : (x : Read Wrapped) → wrapped_at l 0 ≡ x → ((w : Wrapped) × Says l (wrapped_form w)) ⊎ ((w : Wrapped) → Says l (wrapped_form w) → ⊥)
-    go (read.read w e) p = inl (w, says_itself (wrapped_form w) l o ((wrapped_exact l 0 w e).0 p).0)
-    go read.other p = inr (λ w s. (wrapped_other l 0).0 p w (says_first (wrapped_form w) l s))
+    go (Some (w, e)) p = inl (w, says_itself (wrapped_form w) l o ((wrapped_exact l 0 w e).0 p).0)
+    go None p = inr (λ w s. (wrapped_other l 0).0 p w (says_first (wrapped_form w) l s))
 
 abbrev pub update_reads : Reads Wrapped UpdateAsk
 update_reads = record { form = wrapped_form; asked = ask_of; once = wrapped_once; told = wrapped_read }
@@ -73,18 +73,18 @@ settle_same Accepted z e = e refl
 settle_same (Refused r) z e = refl
 
 start_told :
-    (t : Table) (ms : List ℕ) (k u n top e : ℕ) (flags a b : List ℕ) → Means n a b (ring_first n flags top e) → {l : List ℕ}
-    → line_told (on_table t ms) k l ≡ update_start_told t ms k u (ring_first n flags top e) → LineTold t ms k l (start u n a b)
-start_told t ms k u n top e flags a b m p =
-    let f = ring_first n flags top e in
-    let rows = update_rows t u n top e flags a b m in
+    (t : Table) (ms : List ℕ) (k u n top : ℕ) (flags a b : List ℕ) → Means n a b (ring_first n flags top) → {l : List ℕ}
+    → line_told (on_table t ms) k l ≡ update_start_told t ms k u (ring_first n flags top) → LineTold t ms k l (start u n a b)
+start_told t ms k u n top flags a b m p =
+    let f = ring_first n flags top in
+    let rows = update_rows t u n top flags a b m in
     record {
       text = ap (λ (x : Told). x.text) p ∙ ap (answer_text k) rows;
       there =
           ap (λ (x : Told). x.stage) p
           ∙ (ap (λ (v : Verdict). on_table (settle v (after t (update_ask u f)) t) (settle v (set ms u 0) ms)) rows
           ∙ ap (λ (x : Table). on_table x (settle (update_verdict t u n a b) (set ms u 0) ms))
-          (settle_same (update_verdict t u n a b) t (update_after t u n top e flags a b m)));
+          (settle_same (update_verdict t u n a b) t (update_after t u n top flags a b m)));
     }
 
 pub line_told_lem : (t : Table) (ms : List ℕ) (k : ℕ) (l : List ℕ) (w : Wrapped) → Says l (wrapped_form w) → LineTold t ms k l (ask_of w)
@@ -97,9 +97,9 @@ line_told_lem t ms k l (wrapped.step u f) s =
       there = ap (λ (x : Told). x.stage) e ∙ ap (on_table (next_table t (Step u (ring_request f)))) (step_moves ms u f v);
     }
 line_told_lem t ms k l (wrapped.bare u n) s =
-    start_told t ms k u n _ _ _ (every_node n) [] (rings_mean.neither n 0) (lines_say.update_line t ms k l (wrapped.bare u n) s)
+    start_told t ms k u n _ _ (every_node n) [] (rings_mean.neither n) (lines_say.update_line t ms k l (wrapped.bare u n) s)
 line_told_lem t ms k l (wrapped.lists u n a b) s =
-    start_told t ms k u n _ _ _ a b (nodes_mean n (rings_mean.both n a b 0 s.1.0.1.1 s.1.0.1.2))
+    start_told t ms k u n _ _ a b (nodes_mean n (rings_mean.both n a b s.1.0.1.1 s.1.0.1.2))
     (lines_say.update_line t ms k l (wrapped.lists u n a b) s)
 
 pub update_answers : (t : Table) (ms : List ℕ) (k : ℕ) (l : List ℕ) (a : Ask UpdateAsk) → UpdateAsks l a → Answers updates on_table t ms k l a

@@ -17,8 +17,8 @@ use Rattle.log_rules.specs.Theorems.{LinesOf}
 use Rattle.decimal.specs.Bytes.{bytes}
 use Rattle.refusal.proofs.Table.{not_both}
 use Rattle.refusal.specs.declared.Refusal.{Refusal}
-use Rattle.refusal.specs.declared.Verdict.{Verdict}
-use Rattle.refusal.specs.declared.Verdict.TheVariants.{Accepted, Refused}
+use Rattle.refusal.specs.Table.{Verdict}
+use Rattle.refusal.specs.Table.{Accepted, Refused}
 use Rattle.ring_rules.specs.Theorems.{TokenMove}
 use Rattle.forms.specs.declared.RingStep.TheVariants as ring_step
 use Rattle.forms.specs.declared.TreeStep.TheVariants as tree_step

@@ -4,8 +4,8 @@ use Rattle.std.specs.Prelude.{◌+◌, suc, zero, ℕ, get_or, length, take, con
 use Rattle.log_rules.specs.Answers.{answer_text}
 use Rattle.refusal.specs.Table.{is_accepted}
 use Rattle.refusal.specs.declared.Refusal.TheVariants.{NotAForm}
-use Rattle.refusal.specs.declared.Verdict.{Verdict}
-use Rattle.refusal.specs.declared.Verdict.TheVariants.{Accepted, Refused}
+use Rattle.refusal.specs.Table.{Verdict}
+use Rattle.refusal.specs.Table.{Accepted, Refused}
 use Rattle.runs.specs.Runs.{Machine, run_of}
 use Rattle.log_runs.specs.Says.{Ask, no_step, request, requests_in}
 

@@ -8,7 +8,7 @@ use Rattle.log_rules.specs.Lines.{lines_of}
 use Rattle.log_rules.specs.Output.{output_of}
 use Rattle.refusal.specs.Table.{◌⟶◌, first_of}
 use Rattle.refusal.specs.declared.Refusal.TheVariants.{NodeCount, UnknownUpdate}
-use Rattle.refusal.specs.declared.Verdict.TheVariants.{Accepted}
+use Rattle.refusal.specs.Table.{Accepted}
 use Rattle.ring_rules.specs.Rules.{Announce, Idle, Kind, Pass, Probe, Send, Take, Unknown}
 use Rattle.ring_rules.specs.Start.{start_of}
 use Rattle.ring_rules.specs.State.{State, active_at, black_at}

@@ -7,8 +7,8 @@ use Rattle.forms.specs.Form.{Form}
 use Rattle.log_rules.specs.Answers.{Stage, no_moves, on_ring, on_table, on_tree, over}
 use Rattle.refusal.specs.Table.{Row, ◌⟶◌, first_of}
 use Rattle.refusal.specs.declared.Refusal.TheVariants.{NodeCount, NotAForm, UnknownNode, UnknownUpdate}
-use Rattle.refusal.specs.declared.Verdict.{Verdict}
-use Rattle.refusal.specs.declared.Verdict.TheVariants.{Refused}
+use Rattle.refusal.specs.Table.{Verdict}
+use Rattle.refusal.specs.Table.{Refused}
 use Rattle.table_rules.specs.Answers.{answer_on, other_nodes}
 use Rattle.table_rules.specs.Table.{Table, empty_table}
 use Rattle.update_forms.specs.Wrapped.{Wrapped, wrapped_form}

@@ -4,7 +4,7 @@ use Rattle.std.specs.Prelude.{ℕ, List, [], ◌∷◌, ◌≡◌}
 use Rattle.decimal.specs.Bytes.{bytes}
 use Rattle.log_rules.specs.Answers.{on_ring}
 use Rattle.log_rules.specs.Lines.{joined, lines_of}
-use Rattle.refusal.specs.declared.Verdict.TheVariants.{Accepted}
+use Rattle.refusal.specs.Table.{Accepted}
 use Rattle.ring_rules.specs.Start.{start_of}
 use Rattle.ring_rules.specs.State.{State}
 use Rattle.ring_runs.specs.Counts.{QuietBy, ring}

@@ -5,7 +5,7 @@ use Rattle.forms.specs.Form.{Says, announce}
 use Rattle.log_rules.specs.Answers.{Stage, answer_text, fresh, line_told, on_ring, on_table, on_tree, opened_by}
 use Rattle.log_rules.specs.Output.{lines_told}
 use Rattle.log_rules.specs.Theorems.{LinesOf}
-use Rattle.refusal.specs.declared.Verdict.TheVariants.{Accepted}
+use Rattle.refusal.specs.Table.{Accepted}
 use Rattle.runs.specs.Runs.{Request, accepted_of, run_of}
 use Rattle.table_rules.specs.Answers.{Start, verdict_on}
 use Rattle.table_rules.specs.Runs.{table}

@@ -5,7 +5,7 @@ use Rattle.forms.specs.Form.{Says, announce, update}
 use Rattle.log_rules.specs.Answers.{answer_text, table_end}
 use Rattle.log_rules.specs.Output.{output_of}
 use Rattle.refusal.specs.Table.{code_of}
-use Rattle.refusal.specs.declared.Verdict.TheVariants.{Accepted}
+use Rattle.refusal.specs.Table.{Accepted}
 use Rattle.ring_rules.specs.Start.{first_state}
 use Rattle.ring_rules.specs.State.{State}
 use Rattle.ring_rules.specs.Theorems.{TokenMove}

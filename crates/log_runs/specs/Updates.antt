@@ -3,7 +3,7 @@ use Rattle.std.specs.Prelude.{◌+◌, suc, zero, ℕ, eqb, get_or, set, Bool, �
 use Rattle.first_line.specs.Meaning.{every_node}
 use Rattle.log_rules.specs.Answers.{add_at, ring_request}
 use Rattle.refusal.specs.Table.{is_accepted}
-use Rattle.refusal.specs.declared.Verdict.{Verdict}
+use Rattle.refusal.specs.Table.{Verdict}
 use Rattle.ring_runs.specs.Counts.{kind}
 use Rattle.runs.specs.Runs.{Machine, Request}
 use Rattle.table_rules.specs.Answers.{Start, Step, after, verdict_on}

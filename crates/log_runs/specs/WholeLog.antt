@@ -6,8 +6,8 @@ use Rattle.forms.specs.Form.{Says, announce}
 use Rattle.log_rules.specs.Answers.{answer_text, ring_end, tree_end}
 use Rattle.log_rules.specs.Lines.{lines_of}
 use Rattle.log_rules.specs.Output.{output_of}
-use Rattle.refusal.specs.declared.Verdict.{Verdict}
-use Rattle.refusal.specs.declared.Verdict.TheVariants.{Accepted, Refused}
+use Rattle.refusal.specs.Table.{Verdict}
+use Rattle.refusal.specs.Table.{Accepted, Refused}
 use Rattle.ring_rules.specs.Theorems.{TokenMove}
 use Rattle.ring_runs.specs.Counts.{ring}
 use Rattle.runs.specs.Runs.{Machine, Request, accepted_of, run_of}

@@ -1,2 +1,2 @@
-// Theorems only: demand 3 of what is printed for a log. See specs/ for the statements.
+// Theorems only: what the printed lines of a log say of its run, and that the announcement comes. See specs/ for the statements.
 #![tactic(auto)]

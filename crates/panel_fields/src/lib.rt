@@ -1,116 +1,110 @@
-// The fields of a panel as other languages lend them: whether the bytes of truths are 0 or 1 and the record at most 2, the panel that lies in them,
-// and a panel put into them.
+// A panel as other languages lend it: its fields, with a byte for each truth and for the record.
 #![tactic(auto)]
 
-ghost use Rattle.std.specs.Prelude.{◌≡◌, ◌&&◌};
-ghost use Rattle.flag_bytes.specs.Flags.{are_flags, is_flag};
-ghost use Rattle.lent_panel.specs.Panel.{is_record, lent_panel, lent_panel_of, panel_in, record_of};
-ghost use Rattle.panel.specs.View.{panel_of};
-ghost use Rattle.panel_rules.specs.State.{record_number};
+ghost use Rattle.std.specs.Prelude.{◌≡◌};
+ghost use Rattle.lent_panel.specs.Panel.{AskedTo};
+ghost use Rattle.panel_rules.specs.Asks.{Start, step_ask};
+ghost use Rattle.refusal.specs.Answers.{verdict_from};
+ghost use Rattle.refusal.specs.Table.{code_of};
+ghost use Rattle.panel_fields.specs.Fields.{IsStarted, found_sound, panel_found};
 
 use panel::Panel;
 use panel_rules::Record;
-use refusal::{COLOR_BYTES, RING_NODES};
+use refusal::{RING_NODES, Refusal};
+use ring_fields::LentRing;
+use std::marker::Model;
 
-// Are the bytes of a lent panel's truths each 0 or 1, and is its record at most 2?
-pub fn are_flags(
-    active: [u8; RING_NODES],
-    black: u8,
-    closed: u8,
-    firmware: [u8; RING_NODES],
-    map: [u8; RING_NODES],
-    recorded: u8,
-) -> bool
-    ensures { result ≡ ((are_flags active && (is_flag black && is_flag closed)) && (are_flags firmware && (are_flags map && is_record recorded))) }
-{
-    let ring = ring_fields::are_flags(active, black, closed);
-    let firmware_marks = flag_bytes::are_flags(&firmware);
-    let map_marks = flag_bytes::are_flags(&map);
-    ring & (firmware_marks & (map_marks & (recorded <= 2)))
+/// The fields of a panel, as `Panel` has them: those of its ring, its marks with a byte for each, 1 new and 0 old, and the record, 0 empty, 1 old, 2 new. A
+/// byte of a truth above 1, or a record above 2, makes a panel that is not sound.
+#[derive(Clone, Copy, Debug, PartialEq, Eq)]
+pub struct LentPanel {
+    pub ring: LentRing,
+    pub firmware: [u8; RING_NODES],
+    pub map: [u8; RING_NODES],
+    pub recorded: u8,
 }
 
-// The record that a byte says: 0 empty, 1 old, 2 new.
-pub fn record_of(k: u8) -> Record
-    ensures { result ≡ record_of k }
-{
-    if k == 0 {
-        return Record::Empty;
-    }
-    if k == 1 {
-        return Record::Old;
-    }
-    Record::New
+impl Model for LentPanel {
+    ghost use Rattle.lent_panel.specs.Panel.{LentPanel};
+
+    ghost Value = { LentPanel };
+
+    ghost view = { λ a. record { ring = a.ring; firmware = a.firmware; map = a.map; recorded = a.recorded } };
+
+    ghost inverse = { λ d. record { ring = d.ring; firmware = d.firmware; map = d.map; recorded = d.recorded } };
 }
 
-// The byte of a record.
-pub fn record_byte(recorded: Record) -> u8
-    ensures { result ≡ record_number recorded }
-{
-    match recorded {
-        Record::Empty => 0,
-        Record::Old => 1,
-        Record::New => 2,
+impl From<Panel> for LentPanel {
+    ghost use Rattle.panel_fields.specs.Fields.{IsLentOf};
+
+    ghost from_gives = { IsLentOf };
+
+    fn from(panel: Panel) -> LentPanel {
+        LentPanel {
+            ring: LentRing::from(panel.ring),
+            firmware: flag_bytes::bytes_of(&panel.firmware),
+            map: flag_bytes::bytes_of(&panel.map),
+            recorded: u8::from(panel.recorded),
+        }
     }
 }
 
-// The panel that lies in lent fields.
-pub fn gathered(
-    n: usize,
-    active: [u8; RING_NODES],
-    color: [u8; COLOR_BYTES],
-    sent: [u32; RING_NODES],
-    received: [u32; RING_NODES],
-    pending: [u32; RING_NODES],
-    pos: usize,
-    q: i64,
-    black: u8,
-    closed: u8,
-    firmware: [u8; RING_NODES],
-    map: [u8; RING_NODES],
-    recorded: u8,
-) -> Panel
-    ensures { panel_of result ≡ panel_in (lent_panel n active color sent received pending pos q black closed firmware map recorded) }
-{
-    let ring = ring_fields::gathered(
-        n, active, color, sent, received, pending, pos, q, black, closed,
-    );
-    let firmware_marks = flag_bytes::ring_flags(firmware);
-    let map_marks = flag_bytes::ring_flags(map);
-    let word = record_of(recorded);
-    Panel {
-        ring,
-        firmware: firmware_marks,
-        map: map_marks,
-        recorded: word,
+impl LentPanel {
+    /// The panel that lies in the fields. A byte of a truth that is above 1, or a record above 2, is refused with 3.
+    #[tactic(auto, unfolding(lent_panel::specs::Panel::panel_truths))]
+    pub fn panel(&self) -> Result<Panel, Refusal>
+        ensures { result ≡ panel_found self.now }
+    {
+        let ring = self.ring.ring()?;
+        if !flag_bytes::are_flags(&self.firmware) || !flag_bytes::are_flags(&self.map) {
+            return Err(Refusal::Unsound);
+        }
+        let Ok(recorded) = Record::try_from(self.recorded) else {
+            return Err(Refusal::Unsound);
+        };
+        Ok(Panel {
+            ring,
+            firmware: flag_bytes::truths(&self.firmware),
+            map: flag_bytes::truths(&self.map),
+            recorded,
+        })
     }
-}
 
-// The panel put into the lent fields, all but the number of nodes.
-pub fn scatter(
-    panel: Panel,
-    active: &mut [u8; RING_NODES],
-    color: &mut [u8; COLOR_BYTES],
-    sent: &mut [u32; RING_NODES],
-    received: &mut [u32; RING_NODES],
-    pending: &mut [u32; RING_NODES],
-    pos: &mut usize,
-    q: &mut i64,
-    black: &mut u8,
-    closed: &mut u8,
-    firmware: &mut [u8; RING_NODES],
-    map: &mut [u8; RING_NODES],
-    recorded: &mut u8,
-)
-    ensures { lent_panel panel.ring.n active.new color.new sent.new received.new pending.new pos.new q.new black.new closed.new firmware.new map.new recorded.new ≡ lent_panel_of (panel_of panel) }
-{
-    let ring = panel.ring;
-    ring_fields::scatter(
-        ring, active, color, sent, received, pending, pos, q, black, closed,
-    );
-    let firmware_now = panel.firmware;
-    *firmware = flag_bytes::ring_bytes(firmware_now);
-    let map_now = panel.map;
-    *map = flag_bytes::ring_bytes(map_now);
-    let word = panel.recorded;
-    *recorded = record_byte(word);
+    /// Is each byte of a truth 0 or 1, the record at most 2, and the panel sound?
+    pub fn is_sound(&self) -> bool
+        ensures { result ≡ found_sound self.now }
+    {
+        match self.panel() {
+            Ok(panel) => panel.is_sound(),
+            Err(_) => false,
+        }
+    }
+
+    /// A start in place; whatever is refused leaves the fields as they were, and no start changes the number of nodes or a mark.
+    pub fn start(&mut self, nodes: usize, flags: &[u8]) -> Result<(), Refusal>
+        ensures told { AskedTo self.old (Start nodes flags.now) (code_of (verdict_from result)) self.new }
+        ensures kept { IsStarted self.old self.new }
+    {
+        match self.panel()?.start(nodes, flags) {
+            Ok(next) => {
+                *self = LentPanel::from(next);
+                Ok(())
+            }
+            Err(refused) => Err(refused.refusal),
+        }
+    }
+
+    /// A step by its kind number, 1 to 6, in place; whatever is refused leaves the fields as they were, and no step changes the number of nodes.
+    pub fn step(&mut self, kind: usize, i: usize, j: usize) -> Result<(), Refusal>
+        ensures told { AskedTo self.old (step_ask kind i j) (code_of (verdict_from result)) self.new }
+        ensures nodes { self.new.ring.n ≡ self.old.ring.n }
+    {
+        match self.panel()?.step(flag_bytes::kind_byte(kind), i, j) {
+            Ok(next) => {
+                *self = LentPanel::from(next);
+                Ok(())
+            }
+            Err(refused) => Err(refused.refusal),
+        }
+    }
 }

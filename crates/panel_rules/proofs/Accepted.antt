@@ -10,7 +10,7 @@ use Rattle.panel_rules.specs.Soundness.{Sound}
 use Rattle.panel_rules.specs.State.{Panel}
 use Rattle.refusal.proofs.Table.{accepts, none_holds}
 use Rattle.refusal.specs.Table.{NoneHolds, also, none}
-use Rattle.refusal.specs.declared.Verdict.TheVariants.{Accepted}
+use Rattle.refusal.specs.Table.{Accepted}
 use Rattle.ring_rules.proofs.Soundness as ring_sound
 use Rattle.ring_rules.specs.Answers as ring
 use Rattle.ring_rules.specs.Rules.{Kind, guard}

@@ -1,40 +1,28 @@
 -- What the code of a step has to show: the tests that it passed or failed give the definition's verdict. Assumes nothing.
-use Prim.Native.Nat.{◌<◌, ◌≤◌, ℕ}
-use borrow.Author.Tests.{le-leb, lt-leb}
-use mathlib.Core.Bool.{Bool, false, not, true}
-use mathlib.Core.List.{List}
+use Prim.Native.Nat.{ℕ}
+use mathlib.Core.Bool.{Bool, false, true}
 use mathlib.Core.Path.{◌∙◌, ◌≡◌, ap, refl, sym}
 use Rattle.panel_rules.proofs.Soundness.{true_sound}
-use Rattle.panel_rules.specs.Answers.{Answer, answer_of, panel_rows, start_of, start_verdict, verdict_of}
-use Rattle.panel_rules.specs.Rules.{bad_word, is_word, panel_effect, restarted, second, unequal}
+use Rattle.panel_rules.specs.Answers.{answer_of, panel_rows, verdict_of}
+use Rattle.panel_rules.specs.Rules.{bad_word, panel_effect, second, unequal}
 use Rattle.panel_rules.specs.Soundness.{Sound, sound_test}
-use Rattle.panel_rules.specs.State.{Panel, nodes}
+use Rattle.panel_rules.specs.State.{Panel}
 use Rattle.refusal.specs.Table.{first_of, settle, step_rows}
-use Rattle.refusal.specs.declared.Refusal.{Refusal}
-use Rattle.refusal.specs.declared.Refusal.TheVariants.{JobWord, UnknownNode, Unsound}
-use Rattle.refusal.specs.declared.Verdict.{Verdict}
-use Rattle.refusal.specs.declared.Verdict.TheVariants.{Refused}
+use Rattle.refusal.specs.declared.Refusal.TheVariants.{Unsound}
+use Rattle.refusal.specs.Table.{Verdict}
+use Rattle.refusal.specs.Table.{Refused}
 use Rattle.ring_rules.proofs.Soundness as ring_sound
 use Rattle.ring_rules.specs.Answers as ring
-use Rattle.ring_rules.specs.Rules.{Kind, Take, guard}
+use Rattle.ring_rules.specs.Rules.{Kind, guard}
 use Rattle.ring_rules.specs.Soundness as ring_sound_specs
 use Rattle.ring_rules.specs.State.{State}
-
-abbrev pub refused_as : Refusal → Panel → Answer
-refused_as e p = record { verdict = Refused e; panel = p }
 
 -- an answer by its verdict
 pub by_verdict :
     (p : Panel) (k : Kind) (i j : ℕ) (v : Verdict) → verdict_of p k i j ≡ v
-    → record { verdict = v; panel = settle v (panel_effect p k i j) p } ≡ answer_of p k i j
+    → record { verdict = v; state = settle v (panel_effect p k i j) p } ≡ answer_of p k i j
 unfolding answer_of
-by_verdict p k i j v e = ap (λ (w : Verdict). record { verdict = w; panel = settle w (panel_effect p k i j) p }) (sym e)
-
-pub start_by_verdict :
-    (p : Panel) (n : ℕ) (flags : List ℕ) (v : Verdict) → start_verdict p n flags ≡ v
-    → record { verdict = v; panel = settle v (restarted p n flags) p } ≡ start_of p n flags
-unfolding start_of
-start_by_verdict p n flags v e = ap (λ (w : Verdict). record { verdict = w; panel = settle w (restarted p n flags) p }) (sym e)
+by_verdict p k i j v e = ap (λ (w : Verdict). record { verdict = w; state = settle w (panel_effect p k i j) p }) (sym e)
 
 -- the verdict by its eight tests, each known as far as the table is read; and the ring's by its six
 pub by_tests :
@@ -67,12 +55,3 @@ module _ (p : Panel) (s : Sound p) where
   ring_verdict k i j b q =
       by_tests p k i j _ _ _ _ _ _ _ _ (true_sound p s) refl refl refl b refl q refl
       ∙ sym (ring_by_sound p.ring k i (second k j) ring-true)
-
-  -- a take of an open panel whose word is none: 6 or 14, before the rule's condition
-  module _ (i j : ℕ) where
-    module _ (c : p.ring.closed ≡ false) where
-      pub word_outside : nodes p ≤ i → verdict_of p Take i j ≡ Refused UnknownNode
-      word_outside h = by_tests p Take i j _ _ _ _ _ _ _ _ (true_sound p s) c refl (le-leb _ _ h) refl refl refl refl
-
-      pub word_bad : i < nodes p → is_word j ≡ false → verdict_of p Take i j ≡ Refused JobWord
-      word_bad h b = by_tests p Take i j _ _ _ _ _ _ _ _ (true_sound p s) c refl (lt-leb _ _ h) (ap not b) refl refl refl

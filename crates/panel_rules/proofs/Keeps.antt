@@ -15,11 +15,11 @@ use Rattle.panel_rules.specs.Answers.{start_table, start_verdict, verdict_of}
 use Rattle.panel_rules.specs.Rules.{panel_effect, restarted, second}
 use Rattle.panel_rules.specs.Soundness.{Matches, Sound}
 use Rattle.panel_rules.specs.State.{Panel, agreed, agreed_word, entered, nodes, word_of}
-use Rattle.panel_rules.specs.declared.Record.{Record}
-use Rattle.panel_rules.specs.declared.Record.TheVariants.{Empty}
+use Rattle.panel_rules.specs.declared.record.Record.{Record}
+use Rattle.panel_rules.specs.declared.record.Record.TheVariants.{Empty}
 use Rattle.refusal.proofs.Table.{accepts, none_holds}
 use Rattle.refusal.specs.Table.{NoneHolds, also}
-use Rattle.refusal.specs.declared.Verdict.TheVariants.{Accepted}
+use Rattle.refusal.specs.Table.{Accepted}
 use Rattle.ring_rules.proofs.Accepted.{Allowed, Rule, allowed, takes}
 use Rattle.ring_rules.proofs.Keeps.{keeps}
 use Rattle.ring_rules.proofs.Start.{first_open, fits}

@@ -5,3 +5,4 @@ pub mod Answers
 pub mod Keeps
 pub mod Numbers
 pub mod Theorems
+pub mod Kept

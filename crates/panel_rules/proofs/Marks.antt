@@ -10,7 +10,7 @@ use native.Mathlib.Omega.{arith}
 use Rattle.laws.proofs.Places.{all_at, all_from}
 use Rattle.laws.proofs.Tests.{both, both_true, false_true, left_true, not_eq, one_of, right_true, split}
 use Rattle.panel_rules.specs.State.{AllAre, Panel, agreed, agreed_word, all_say_word, nodes, says, word_of}
-use Rattle.panel_rules.specs.declared.Record.TheVariants.{Empty}
+use Rattle.panel_rules.specs.declared.record.Record.TheVariants.{Empty}
 
 says-true : (word mark : Bool) → says word mark ≡ true → mark ≡ word
 says-true true mark e = e

@@ -17,7 +17,7 @@ use Rattle.panel_rules.specs.Soundness.{Sound, sound_test}
 use Rattle.panel_rules.specs.State.{Panel, agreed, nodes}
 use Rattle.refusal.specs.Table.{◌⟶◌, code_of, first_of}
 use Rattle.refusal.specs.declared.Refusal.TheVariants.{NodeCount, StartFlags, Unsound}
-use Rattle.refusal.specs.declared.Verdict.TheVariants.{Accepted}
+use Rattle.refusal.specs.Table.{Accepted}
 use Rattle.ring_rules.specs.Answers as ring
 use Rattle.ring_rules.specs.Rules.{Announce, Idle, Kind, Pass, Probe, Send, Take, Unknown, conclusive, guard}
 use Rattle.ring_rules.specs.Start.{flags_test}

@@ -25,9 +25,9 @@ use Rattle.panel_rules.specs.Theorems.{CloseAnswered, EnterAnswered, NumbersAlon
 use Rattle.refusal.proofs.Table.{accepts, first_row, none_holds, numbered, other_kind}
 use Rattle.refusal.proofs.Theorems.{count_refused, count_told}
 use Rattle.refusal.specs.Table.{Numbered, also, code_of, first_of, settle}
-use Rattle.refusal.specs.declared.Count.{Count}
-use Rattle.refusal.specs.declared.Verdict.{Verdict}
-use Rattle.refusal.specs.declared.Verdict.TheVariants.{Accepted, Refused}
+use Rattle.refusal.specs.Counts.{Count}
+use Rattle.refusal.specs.Table.{Verdict}
+use Rattle.refusal.specs.Table.{Accepted, Refused}
 use Rattle.ring_rules.proofs.Theorems as ring
 use Rattle.ring_rules.specs.Answers as ring_answers
 use Rattle.ring_rules.specs.Rules.{Announce, Idle, Kind, Pass, Probe, Send, Take, Unknown, kind_of}
@@ -79,13 +79,13 @@ verdict_is p (Step x) = refl
 verdict_is p (Start n flags) = refl
 
 -- an answer by its verdict
-pub answer_is : (p : Panel) (a : Ask) → answer_on p a ≡ record { verdict = verdict_on p a; panel = next panel p a }
+pub answer_is : (p : Panel) (a : Ask) → answer_on p a ≡ record { verdict = verdict_on p a; state = next panel p a }
 unfolding answer_of start_of
 answer_is p (Step x) = refl
 answer_is p (Start n flags) = refl
 
-panel_by : (p : Panel) (a : Ask) (v : Verdict) → verdict_on p a ≡ v → (answer_on p a).panel ≡ settle v (after p a) p
-panel_by p a v e = ap (λ (x : Answer). x.panel) (answer_is p a) ∙ ap (λ (v : Verdict). settle v (after p a) p) e
+panel_by : (p : Panel) (a : Ask) (v : Verdict) → verdict_on p a ≡ v → (answer_on p a).state ≡ settle v (after p a) p
+panel_by p a v e = ap (λ (x : Answer). x.state) (answer_is p a) ∙ ap (λ (v : Verdict). settle v (after p a) p) e
 
 unsound_3 : (p : Panel) → (Sound p → ⊥) → (a : Ask) → code_of (verdict_on p a) ≡ 3
 unsound_3 p h a = go (split (sound_test p)) a
@@ -135,7 +135,7 @@ enter_answered =
 
 -- ---- soundness kept
 
-enter_sound : (n : ℕ) (flags : List ℕ) → (enter_of n flags).verdict ≡ Accepted → Sound (enter_of n flags).panel
+enter_sound : (n : ℕ) (flags : List ℕ) → (enter_of n flags).verdict ≡ Accepted → Sound (enter_of n flags).state
 unfolding enter_of ring_start.start_of
 enter_sound n flags e = enter_keeps _ ((ring.sound_kept).start n flags e)
 
@@ -143,7 +143,7 @@ pub after_sound : (p : Panel) (a : Ask) → verdict_on p a ≡ Accepted → Soun
 after_sound p (Step x) e = step_keeps p (kind_of x.kind) x.i x.j e
 after_sound p (Start n flags) e = start_keeps p n flags e
 
-accepted_sound : (p : Panel) (a : Ask) → verdict_on p a ≡ Accepted → Sound (answer_on p a).panel
+accepted_sound : (p : Panel) (a : Ask) → verdict_on p a ≡ Accepted → Sound (answer_on p a).state
 accepted_sound p a e = subst Sound (sym (panel_answered.next p a e)) (after_sound p a e)
 
 pub panel_kept : PanelKept
@@ -155,22 +155,22 @@ panel_kept =
       run = λ p s ls. run_keeps panel Sound (λ q a _ e. after_sound q a e) (run_of_lem panel p ls) s;
     }
   where
-    any : (p : Panel) (a : Ask) → Sound p → (v : Verdict) → verdict_on p a ≡ v → Sound (answer_on p a).panel
+    any : (p : Panel) (a : Ask) → Sound p → (v : Verdict) → verdict_on p a ≡ v → Sound (answer_on p a).state
     any p a s Accepted e = accepted_sound p a e
     any p a s (Refused x) e = subst Sound (sym (panel_answered.same p a x e)) s
 
 -- ---- steps
 
 module _ (p : Panel) (k : Kind) (i j : ℕ) where
-  step_by : (v : Verdict) → verdict_of p k i j ≡ v → (answer_of p k i j).panel ≡ settle v (panel_effect p k i j) p
+  step_by : (v : Verdict) → verdict_of p k i j ≡ v → (answer_of p k i j).state ≡ settle v (panel_effect p k i j) p
   unfolding answer_of
   step_by v e = ap (λ (v : Verdict). settle v (panel_effect p k i j) p) e
 
   -- what a step's effect keeps, its answer does
-  kept_by : {A : Type 0} (f : Panel → A) → f (panel_effect p k i j) ≡ f p → f (answer_of p k i j).panel ≡ f p
+  kept_by : {A : Type 0} (f : Panel → A) → f (panel_effect p k i j) ≡ f p → f (answer_of p k i j).state ≡ f p
   kept_by f e = go (verdict_of p k i j) refl
     where
-      go : (v : Verdict) → verdict_of p k i j ≡ v → f (answer_of p k i j).panel ≡ f p
+      go : (v : Verdict) → verdict_of p k i j ≡ v → f (answer_of p k i j).state ≡ f p
       go Accepted h = ap f (step_by Accepted h) ∙ e
       go (Refused x) h = ap f (step_by (Refused x) h)
 
@@ -242,15 +242,15 @@ take_inside p i j e =
     omega arith
 
 module _ (p : Panel) (i j : ℕ) where
-  other_firmware : (b : ℕ) → b ≢ i → firmware_at (answer_of p Take i j).panel b ≡ firmware_at p b
+  other_firmware : (b : ℕ) → b ≢ i → firmware_at (answer_of p Take i j).state b ≡ firmware_at p b
   other_firmware b h =
       kept_by p Take i j (λ (q : Panel). firmware_at q b) (get_or-set_other p.firmware i b _ false h)
 
-  other_map : (b : ℕ) → b ≢ i → map_at (answer_of p Take i j).panel b ≡ map_at p b
+  other_map : (b : ℕ) → b ≢ i → map_at (answer_of p Take i j).state b ≡ map_at p b
   other_map b h = kept_by p Take i j (λ (q : Panel). map_at q b) (get_or-set_other p.map i b _ false h)
 
   module _ (e : verdict_of p Take i j ≡ Accepted) where
-    own_firmware : firmware_at (answer_of p Take i j).panel i ≡ firmware_said j (firmware_at p i)
+    own_firmware : firmware_at (answer_of p Take i j).state i ≡ firmware_said j (firmware_at p i)
     own_firmware =
         ap (λ (q : Panel). firmware_at q i) (step_by p Take i j Accepted e)
         ∙ get_or-set_same p.firmware i _ false (inside (passed p Take i j e).sound.firmware_places)
@@ -258,7 +258,7 @@ module _ (p : Panel) (i j : ℕ) where
         inside : {l : ℕ} → l ≡ 96 → i < l
         inside q = let h = take_inside p i j e in omega arith
 
-    own_map : map_at (answer_of p Take i j).panel i ≡ map_said j (map_at p i)
+    own_map : map_at (answer_of p Take i j).state i ≡ map_said j (map_at p i)
     own_map =
         ap (λ (q : Panel). map_at q i) (step_by p Take i j Accepted e)
         ∙ get_or-set_same p.map i _ false (inside (passed p Take i j e).sound.map_places)
@@ -321,14 +321,14 @@ numbers_alone = record { word = word; marks = marks }
 -- ---- starts
 
 module _ (p : Panel) (n : ℕ) (flags : List ℕ) where
-  start_by : (v : Verdict) → start_verdict p n flags ≡ v → (start_of p n flags).panel ≡ settle v (restarted p n flags) p
+  start_by : (v : Verdict) → start_verdict p n flags ≡ v → (start_of p n flags).state ≡ settle v (restarted p n flags) p
   unfolding start_of
   start_by v e = ap (λ (v : Verdict). settle v (restarted p n flags) p) e
 
-  marks_kept : {A : Type 0} (f : Panel → A) → f (restarted p n flags) ≡ f p → f (start_of p n flags).panel ≡ f p
+  marks_kept : {A : Type 0} (f : Panel → A) → f (restarted p n flags) ≡ f p → f (start_of p n flags).state ≡ f p
   marks_kept f e = go (start_verdict p n flags) refl
     where
-      go : (v : Verdict) → start_verdict p n flags ≡ v → f (start_of p n flags).panel ≡ f p
+      go : (v : Verdict) → start_verdict p n flags ≡ v → f (start_of p n flags).state ≡ f p
       go Accepted h = ap f (start_by Accepted h) ∙ e
       go (Refused x) h = ap f (start_by (Refused x) h)
 

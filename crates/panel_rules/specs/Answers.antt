@@ -1,13 +1,14 @@
--- Q-7: the verdict on a step and on a start, and the answer, for every panel and all numbers. A step's refusals in the order 3, 4, 5, 6, 14, 8, 15, 9.
+-- The verdict on a step and on a start, and the answer, for every panel and all numbers. A step's refusals in the order 3, 4, 5, 6, 14, 8, 15, 9.
 use Rattle.std.specs.Prelude.{ℕ, eqb, leb, Bool, not, List, [], ◌∷◌}
 use Rattle.panel_rules.specs.Rules.{bad_word, panel_effect, restarted, second, unequal}
 use Rattle.panel_rules.specs.Soundness.{sound_test}
 use Rattle.panel_rules.specs.State.{Panel, entered, firmware_at, map_at, marks_number, nodes, record_number}
+use Rattle.refusal.specs.Answers as answers
 use Rattle.refusal.specs.Counts.{count_of}
 use Rattle.refusal.specs.Table.{Row, ◌⟶◌, first_of, settle}
-use Rattle.refusal.specs.declared.Count.{Count}
+use Rattle.refusal.specs.Counts.{Count}
 use Rattle.refusal.specs.declared.Refusal.TheVariants.{Closed, JobWord, NodeCount, RuleFails, SendLimit, UnequalMarks, UnknownKind, UnknownNode, Unsound}
-use Rattle.refusal.specs.declared.Verdict.{Verdict}
+use Rattle.refusal.specs.Table.{Verdict}
 use Rattle.ring_rules.specs.Answers.{outside, sends_spent, unknown}
 use Rattle.ring_rules.specs.Rules.{Kind, guard}
 use Rattle.ring_rules.specs.Start as ring
@@ -33,13 +34,12 @@ step_table p k i j =
 unfoldable pub verdict_of : Panel → Kind → ℕ → ℕ → Verdict
 verdict_of p k i j = first_of (step_table p k i j)
 
-pub record Answer : Type 0 where
-  pub verdict : Verdict
-  pub panel : Panel
+abbrev pub Answer : Type 0
+Answer = answers.Answer Panel
 
 -- the answer of a step: the next panel where it is accepted, and else the very panel handed in
 unfoldable pub answer_of : Panel → Kind → ℕ → ℕ → Answer
-answer_of p k i j = record { verdict = verdict_of p k i j; panel = settle (verdict_of p k i j) (panel_effect p k i j) p }
+answer_of p k i j = record { verdict = verdict_of p k i j; state = settle (verdict_of p k i j) (panel_effect p k i j) p }
 
 -- ---- a start on a panel: 3, then 1, for another N than the panel's too, then 2
 
@@ -53,13 +53,13 @@ unfoldable pub start_verdict : Panel → ℕ → List ℕ → Verdict
 start_verdict p n flags = first_of (start_table p n flags)
 
 unfoldable pub start_of : Panel → ℕ → List ℕ → Answer
-start_of p n flags = record { verdict = start_verdict p n flags; panel = settle (start_verdict p n flags) (restarted p n flags) p }
+start_of p n flags = record { verdict = start_verdict p n flags; state = settle (start_verdict p n flags) (restarted p n flags) p }
 
 -- ---- entering: the ring's start, all marks old, the record empty. A refused one yields no panel: the ring's blank stands in it, so that
 -- every use of it is refused with 3.
 
 unfoldable pub enter_of : ℕ → List ℕ → Answer
-enter_of n flags = record { verdict = (ring.start_of n flags).verdict; panel = entered (ring.start_of n flags).state }
+enter_of n flags = record { verdict = (ring.start_of n flags).verdict; state = entered (ring.start_of n flags).state }
 
 -- ---- what is read of a panel: 3 where it is not sound, and of a node's marks 6 where there is no such node; 0 stands in the place of a number
 -- that is refused and says nothing

@@ -1,11 +1,11 @@
--- Q-7: the requests to a panel, steps and starts, of any kind and with any numbers; a list of them, refused ones included, is a run of the machine
+-- The requests to a panel, steps and starts, of any kind and with any numbers; a list of them, refused ones included, is a run of the machine
 -- here: each is given the panel that the last one returned.
 use Rattle.std.specs.Prelude.{ℕ, List}
 use Rattle.panel_rules.specs.Answers.{Answer, answer_of, start_of, start_table, start_verdict, step_table, verdict_of}
 use Rattle.panel_rules.specs.Rules.{panel_effect, restarted}
 use Rattle.panel_rules.specs.State.{Panel}
 use Rattle.refusal.specs.Table.{Row}
-use Rattle.refusal.specs.declared.Verdict.{Verdict}
+use Rattle.refusal.specs.Table.{Verdict}
 use Rattle.ring_rules.specs.Rules.{kind_of}
 use Rattle.runs.specs.Runs.{Machine, Request}
 

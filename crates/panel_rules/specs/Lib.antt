@@ -1,6 +1,9 @@
 pub mod State
+pub mod Records
+pub mod JobWords
 pub mod Rules
 pub mod Soundness
 pub mod Answers
 pub mod Asks
+pub mod Request
 pub mod Theorems

@@ -1,8 +1,8 @@
--- Document 02, Q-7: a panel is a ring, for each of its nodes a firmware mark and a map mark, and a record.
+-- A panel is a ring, for each of its nodes a firmware mark and a map mark, and a record.
 use Rattle.std.specs.Prelude.{◌+◌, ◌<◌, ℕ, get_or, replicate, Bool, ◌&&◌, ◌||◌, cond, false, not, true, List, ◌≡◌}
 use Rattle.laws.specs.Places.{all_to}
-use Rattle.panel_rules.specs.declared.Record.{Record}
-use Rattle.panel_rules.specs.declared.Record.TheVariants.{Empty, New, Old}
+use Rattle.panel_rules.specs.declared.record.Record.{Record}
+use Rattle.panel_rules.specs.declared.record.Record.TheVariants.{Empty, New, Old}
 use Rattle.ring_rules.specs.State.{State}
 
 -- A mark is new where it is true, and else old. Marks have a place for each of 96 nodes, as the ring's columns have.

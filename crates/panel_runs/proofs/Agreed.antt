@@ -17,8 +17,8 @@ use Rattle.panel_rules.specs.Soundness.{Sound}
 use Rattle.panel_rules.specs.State.{Panel, agreed, nodes}
 use Rattle.panel_runs.specs.Agreement.{NextAnswered, StepsAgree, at_limit, matched, shown_after, some_node}
 use Rattle.refusal.specs.Table.{code_of, send_limit}
-use Rattle.refusal.specs.declared.Verdict.{Verdict}
-use Rattle.refusal.specs.declared.Verdict.TheVariants.{Accepted, Refused}
+use Rattle.refusal.specs.Table.{Verdict}
+use Rattle.refusal.specs.Table.{Accepted, Refused}
 use Rattle.ring_rules.proofs.Fields.{same_n}
 use Rattle.ring_rules.proofs.Theorems.{limit_met}
 use Rattle.ring_rules.proofs.Accepted.{conclusive-true}
@@ -160,17 +160,17 @@ module _ (p : Panel) (ok : Sound p) where
       ⊎_elim (λ c. absurd (agrees.detected_is_last (detected_of p.ring ok.ring (conclusive-true p.ring (ok.ring.announced c))) t a)) (λ o. o)
       (split p.ring.closed)
 
-  refused_same : (x : Request) → (Accepts panel p (Step x) → ⊥) → (answer_on p (Step x)).panel ≡ p
+  refused_same : (x : Request) → (Accepts panel p (Step x) → ⊥) → (answer_on p (Step x)).state ≡ p
   refused_same x ne = go (verdict_on p (Step x)) refl
     where
-      go : (v : Verdict) → verdict_on p (Step x) ≡ v → (answer_on p (Step x)).panel ≡ p
+      go : (v : Verdict) → verdict_on p (Step x) ≡ v → (answer_on p (Step x)).state ≡ p
       go Accepted e = absurd (ne e)
       go (Refused f) e = panel_answered.same p (Step x) f e
 
-  kept_n : (x : Request) → nodes (answer_on p (Step x)).panel ≡ nodes p
+  kept_n : (x : Request) → nodes (answer_on p (Step x)).state ≡ nodes p
   kept_n x = go (verdict_on p (Step x)) refl
     where
-      go : (v : Verdict) → verdict_on p (Step x) ≡ v → nodes (answer_on p (Step x)).panel ≡ nodes p
+      go : (v : Verdict) → verdict_on p (Step x) ≡ v → nodes (answer_on p (Step x)).state ≡ nodes p
       go Accepted e = ap nodes (panel_answered.next p (Step x) e) ∙ same_n p.ring (kind x) x.i (second (kind x) x.j)
       go (Refused f) e = ap nodes (panel_answered.same p (Step x) f e)
 

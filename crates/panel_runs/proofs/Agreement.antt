@@ -22,8 +22,8 @@ use Rattle.panel_runs.proofs.WholeRun.{base-n, leg}
 use Rattle.panel_runs.specs.Agreement.{EnterRunTo, RunTo, RunsAgree, some_node}
 use Rattle.panel_runs.specs.Counts.{Leg, leg_from, leg_of, started_in, to_ring}
 use Rattle.refusal.specs.Table.{send_limit, settle}
-use Rattle.refusal.specs.declared.Verdict.{Verdict}
-use Rattle.refusal.specs.declared.Verdict.TheVariants.{Accepted}
+use Rattle.refusal.specs.Table.{Verdict}
+use Rattle.refusal.specs.Table.{Accepted}
 use Rattle.ring_rules.proofs.Start.{fits}
 use Rattle.ring_rules.proofs.Theorems.{start_answered}
 use Rattle.ring_rules.specs.Start as ring_start
@@ -73,11 +73,11 @@ reached n h l t a b =
     (sym (a.there ∙ ap (λ (r : State). run_of ring r l.steps) b.base_is))
     ((rings.runs_agree h).run_is_reachable b.flags b.accepted l.steps)
 
-entered_begun : (n : ℕ) (flags : List ℕ) → (enter_of n flags).verdict ≡ Accepted → Begun n (record { base = (enter_of n flags).panel.ring; steps = [] })
+entered_begun : (n : ℕ) (flags : List ℕ) → (enter_of n flags).verdict ≡ Accepted → Begun n (record { base = (enter_of n flags).state.ring; steps = [] })
 unfolding enter_of ring_start.start_of
 entered_begun n flags e = record { flags = flags; accepted = e; base_is = refl }
 
-entered_n : (n : ℕ) (flags : List ℕ) → (enter_of n flags).verdict ≡ Accepted → nodes (enter_of n flags).panel ≡ n
+entered_n : (n : ℕ) (flags : List ℕ) → (enter_of n flags).verdict ≡ Accepted → nodes (enter_of n flags).state ≡ n
 unfolding enter_of ring_start.start_of ring_start.first_state
 entered_n n flags e = ap (λ (r : State). r.n) (start_answered.first n flags e)
 
@@ -110,7 +110,7 @@ module _ (q : Panel) (ok : Sound q) (running : q.ring.closed ≡ false) where
       record {
         x = y;
         accepted = o.accepted;
-        there = ap (λ (a : Answer). vars_of (nodes q) a.panel.ring) (sym (answer_is q (Step y))) ∙ o.there;
+        there = ap (λ (a : Answer). vars_of (nodes q) a.state.ring) (sym (answer_is q (Step y))) ∙ o.there;
         running =
             ap (λ (u : Panel). u.ring.closed) made
             ∙ effect-closed q.ring (kind y) y.i (second (kind y) y.j)
@@ -205,7 +205,7 @@ reachable_entered {N} h hi (later {s} {t} {m} b a) l =
     record {
       flags = w.flags;
       entered = w.entered;
-      run = run_more (enter_of N w.flags).panel (panel_kept.enter N w.flags w.entered) h (entered_n N w.flags w.entered) w.run a l;
+      run = run_more (enter_of N w.flags).state (panel_kept.enter N w.flags w.entered) h (entered_n N w.flags w.entered) w.run a l;
     }
 
 reachable_run : (p : Panel) → Sound p → {N : ℕ} (h : 0 < N) → N ≡ nodes p → {t : Vars N} {m : ℕ} → Reachable h t m → m ≤ send_limit → RunTo p t m
@@ -215,13 +215,13 @@ reachable_run p ok h size (later {s} {t} {m} b a) l = run_more p ok h (sym size)
 
 -- ---- the whole
 
-start_init : (p : Panel) (N : ℕ) (flags : List ℕ) → Accepts panel p (Start N flags) → Started flags (vars_of N (answer_on p (Start N flags)).panel.ring)
+start_init : (p : Panel) (N : ℕ) (flags : List ℕ) → Accepts panel p (Start N flags) → Started flags (vars_of N (answer_on p (Start N flags)).state.ring)
 start_init p N flags e =
     let a = (starts p N flags e).accepted in
     subst (λ (r : State). Started flags (vars_of N r)) (start_answered.first N flags a ∙ sym (panel_starts.afresh p N flags e))
     ((rings.starts_agree N).start_is_init flags a)
 
-enter_init : (N : ℕ) (flags : List ℕ) → (enter_of N flags).verdict ≡ Accepted → Started flags (vars_of N (enter_of N flags).panel.ring)
+enter_init : (N : ℕ) (flags : List ℕ) → (enter_of N flags).verdict ≡ Accepted → Started flags (vars_of N (enter_of N flags).state.ring)
 unfolding enter_of ring_start.start_of
 enter_init N flags e = (rings.starts_agree N).start_is_init flags e
 
@@ -236,7 +236,7 @@ runs_agree =
           reached (nodes p) h _ (run_of panel p ls) (leg p s ls) (begun (nodes p) _ (run_of_lem panel p ls) refl e);
       after_entering =
           λ n flags e ls h.
-          let p = (enter_of n flags).panel in
+          let p = (enter_of n flags).state in
           reached n h _ (run_of panel p ls) (leg p (panel_kept.enter n flags e) ls)
           (begun_stays n _ (run_of_lem panel p ls) (entered_n n flags e) (entered_begun n flags e));
       reachable_is_entered = λ h hi t m b l. reachable_entered h hi b l;

@@ -14,7 +14,7 @@ use Rattle.panel_runs.specs.Counts.{AllMoves, Leg, ended_in, leg_from, move_firs
 use Rattle.panel_rules.specs.Asks.{Ask, Start, Step, after, panel}
 use Rattle.runs.specs.Runs.{Accepts, Request, accepted_of, run_of}
 use Rattle.refusal.specs.Table.{settle}
-use Rattle.refusal.specs.declared.Verdict.{Verdict}
+use Rattle.refusal.specs.Table.{Verdict}
 use Rattle.ring_rules.proofs.Start.{first_open, fits}
 use Rattle.ring_rules.specs.Soundness as ring_sound
 use Rattle.ring_rules.specs.Start.{first_state}

@@ -21,8 +21,8 @@ use Rattle.panel_rules.specs.Asks.{Ask, Start, Step, panel, verdict_on}
 use Rattle.panel_rules.specs.Rules.{unequal}
 use Rattle.panel_rules.specs.Soundness.{Matches, Sound}
 use Rattle.panel_rules.specs.State.{Panel, agreed, all_say_word, firmware_at, map_at, marks_number, nodes, record_number, word_of}
-use Rattle.panel_rules.specs.declared.Record.{Record}
-use Rattle.panel_rules.specs.declared.Record.TheVariants.{Empty}
+use Rattle.panel_rules.specs.declared.record.Record.{Record}
+use Rattle.panel_rules.specs.declared.record.Record.TheVariants.{Empty}
 use Rattle.panel_runs.proofs.Legs.{At, at_first, leg_append, leg_goes_on, ring_length, ring_moves, ring_unannounced, ring_of, run_leg, run_seen}
 use Rattle.panel_runs.proofs.Next.{announce_test, one_of_three}
 use Rattle.panel_runs.proofs.Trace.{first_closed, moves_keep, none_taken, not_ended, run_closed, run_firmware, run_map, run_n, run_sound}
@@ -30,7 +30,7 @@ use Rattle.panel_runs.specs.Counts.{AgreeBy, AllMoves, Leg, QuietBy, QuietOver, 
 use Rattle.panel_runs.specs.WholeRun.{Countdown, Counted, OneOfThree, Point, Reads, Released, WholeRuns, close, stuck, token_moves}
 use Rattle.refusal.specs.Counts.{count_of}
 use Rattle.refusal.specs.Table.{code_of, send_limit}
-use Rattle.refusal.specs.declared.Verdict.TheVariants.{Accepted}
+use Rattle.refusal.specs.Table.{Accepted}
 use Rattle.ring_rules.specs.Rules.{Announce, Kind, Send, conclusive}
 use Rattle.ring_rules.specs.Start as ring_start
 use Rattle.ring_rules.specs.State.{State, active_at, pending_at, received_at}
@@ -404,8 +404,8 @@ whole_runs =
       answers = answer_is;
     }
   where
-    entered_open : (n : ℕ) (flags : List ℕ) → (enter_of n flags).verdict ≡ Accepted → (enter_of n flags).panel.ring.closed ≡ false
+    entered_open : (n : ℕ) (flags : List ℕ) → (enter_of n flags).verdict ≡ Accepted → (enter_of n flags).state.ring.closed ≡ false
     entered_open n flags e = ap (λ (p : Panel). p.ring.closed) (enter_answered.first n flags e) ∙ first_closed n flags
 
-    entered_empty : (n : ℕ) (flags : List ℕ) → (enter_of n flags).panel.recorded ≡ Empty
+    entered_empty : (n : ℕ) (flags : List ℕ) → (enter_of n flags).state.recorded ≡ Empty
     entered_empty n flags = refl

@@ -9,7 +9,7 @@ use Rattle.panel_rules.specs.Soundness.{Sound}
 use Rattle.panel_rules.specs.State.{Panel, agreed, nodes}
 use Rattle.panel_runs.specs.Counts.{leg_of, started_in}
 use Rattle.refusal.specs.Table.{code_of, send_limit}
-use Rattle.refusal.specs.declared.Verdict.TheVariants.{Accepted}
+use Rattle.refusal.specs.Table.{Accepted}
 use Rattle.ring_rules.specs.Rules.{Announce, Take}
 use Rattle.ring_runs.specs.Agreement.{BelowLimit, Behaves, Reachable, Started, nexts_of, sends_made, shown}
 use Rattle.ring_runs.specs.Counts.{kind}
@@ -22,7 +22,7 @@ use Rattle.runs.specs.Runs.{Accepts, Request, accepted_of, run_of}
 
 -- what EWD998 sees of the panel's ring after the step x
 abbrev pub shown_after : (p : Panel) → Request → Vars (nodes p)
-shown_after p x = vars_of (nodes p) (answer_on p (Step x)).panel.ring
+shown_after p x = vars_of (nodes p) (answer_on p (Step x)).state.ring
 
 module _ (p : Panel) (ok : Sound p) where
   abbrev pub some_node : 0 < nodes p
@@ -37,7 +37,7 @@ module _ (p : Panel) (ok : Sound p) where
 
   pub record StepsAgree : Type 0 where
     -- N is a constant
-    pub nodes_kept : (x : Request) → nodes (answer_on p (Step x)).panel ≡ nodes p
+    pub nodes_kept : (x : Request) → nodes (answer_on p (Step x)).state ≡ nodes p
     -- an accepted step is its action
     pub accepted_is_action :
         (x : Request) → Accepts panel p (Step x) → Action some_node (shown p.ring) (shown_after p x) (kind x) x.i (second (kind x) x.j)
@@ -51,7 +51,7 @@ module _ (p : Panel) (ok : Sound p) where
         (x : Request) → Accepts panel p (Step x)
         → InARow (Next some_node) (nexts_of (kind x) (second (kind x) x.j)) (shown p.ring) (shown_after p x)
         × (kind x ≡ Announce → TerminationDetected some_node (shown p.ring))
-    pub refused_is_same : (x : Request) → (Accepts panel p (Step x) → ⊥) → (answer_on p (Step x)).panel ≡ p
+    pub refused_is_same : (x : Request) → (Accepts panel p (Step x) → ⊥) → (answer_on p (Step x)).state ≡ p
     -- and every step of Next, from any sound panel, is answered; a receipt by an accepted take with each of the four job words
     pub next_is_answered : (t : Vars (nodes p)) → Next some_node (shown p.ring) t → NextAnswered t
     pub receipt_with_any_word :
@@ -75,14 +75,14 @@ pub record RunTo (p : Panel) {N : ℕ} (t : Vars N) (m : ℕ) : Type 0 where
 pub record EnterRunTo {N : ℕ} (t : Vars N) (m : ℕ) : Type 0 where
   pub flags : List ℕ
   pub entered : (enter_of N flags).verdict ≡ Accepted
-  pub run : RunTo (enter_of N flags).panel t m
+  pub run : RunTo (enter_of N flags).state t m
 
 pub record RunsAgree : Type 0 where
   -- an entering and an accepted start show an initial state, with its flags
   pub enter_is_init :
-      (N : ℕ) (flags : List ℕ) → (enter_of N flags).verdict ≡ Accepted → Started flags (vars_of N (enter_of N flags).panel.ring)
+      (N : ℕ) (flags : List ℕ) → (enter_of N flags).verdict ≡ Accepted → Started flags (vars_of N (enter_of N flags).state.ring)
   pub start_is_init :
-      (p : Panel) (N : ℕ) (flags : List ℕ) → Accepts panel p (Start N flags) → Started flags (vars_of N (answer_on p (Start N flags)).panel.ring)
+      (p : Panel) (N : ℕ) (flags : List ℕ) → Accepts panel p (Start N flags) → Started flags (vars_of N (answer_on p (Start N flags)).state.ring)
   -- the steps accepted since the latest start, or since the first panel, are a behaviour
   pub run_is_behaviour :
       (p : Panel) → Sound p → (ls : List Ask) (h : 0 < nodes p) → Behaves h (leg_of p ls).base (leg_of p ls).steps (run_of panel p ls).ring
@@ -92,7 +92,7 @@ pub record RunsAgree : Type 0 where
       → Reachable h (vars_of (nodes p) (run_of panel p ls).ring) (sends_made (run_of panel p ls).ring)
   pub after_entering :
       (N : ℕ) (flags : List ℕ) → (enter_of N flags).verdict ≡ Accepted → (ls : List Ask) (h : 0 < N)
-      → Reachable h (vars_of N (run_of panel (enter_of N flags).panel ls).ring) (sends_made (run_of panel (enter_of N flags).panel ls).ring)
+      → Reachable h (vars_of N (run_of panel (enter_of N flags).state ls).ring) (sends_made (run_of panel (enter_of N flags).state ls).ring)
   -- and each reachable state is that of a panel which is entered, and of a run from any sound panel of that many nodes, open, released or stuck,
   -- whatever its marks
   pub reachable_is_entered : {N : ℕ} (h : 0 < N) → N ≤ 96 → (t : Vars N) (m : ℕ) → Reachable h t m → m ≤ send_limit → EnterRunTo t m

@@ -4,10 +4,10 @@ use Rattle.panel_rules.specs.Answers.{enter_of, marks_answer, record_answer}
 use Rattle.panel_rules.specs.Asks.{Ask, Start, Step, answer_on, panel, verdict_on}
 use Rattle.panel_rules.specs.Soundness.{Sound}
 use Rattle.panel_rules.specs.State.{Panel, agreed, firmware_at, map_at, nodes, word_of}
-use Rattle.panel_rules.specs.declared.Record.TheVariants.{Empty}
+use Rattle.panel_rules.specs.declared.record.Record.TheVariants.{Empty}
 use Rattle.panel_runs.specs.Counts.{AgreeBy, AllMoves, QuietBy, Silent, active_in, ended_in, firmware_by, leg_of, map_by, released_by, sends_over, started_in, transit_in}
 use Rattle.refusal.specs.Table.{code_of, send_limit}
-use Rattle.refusal.specs.declared.Verdict.TheVariants.{Accepted}
+use Rattle.refusal.specs.Table.{Accepted}
 use Rattle.ring_rules.specs.Rules.{Announce, Send, conclusive}
 use Rattle.ring_rules.specs.Start as ring_start
 use Rattle.ring_rules.specs.State.{active_at, pending_at, received_at}
@@ -134,7 +134,7 @@ pub record WholeRuns : Type 0 where
   -- such a panel is every one that is entered; it is open, its record is empty, and every mark of it is old
   pub entered :
       (n : ℕ) (flags : List ℕ) → (enter_of n flags).verdict ≡ Accepted
-      → Sound (enter_of n flags).panel × ((enter_of n flags).panel.ring.closed ≡ false) × ((enter_of n flags).panel.recorded ≡ Empty)
-      × ((b : ℕ) → (firmware_at (enter_of n flags).panel b ≡ false) × (map_at (enter_of n flags).panel b ≡ false))
+      → Sound (enter_of n flags).state × ((enter_of n flags).state.ring.closed ≡ false) × ((enter_of n flags).state.recorded ≡ Empty)
+      × ((b : ℕ) → (firmware_at (enter_of n flags).state b ≡ false) × (map_at (enter_of n flags).state b ≡ false))
   -- The operations answer as the list is read, so that the claim is about the code that meets `answer_on`.
-  pub answers : (p : Panel) (a : Ask) → answer_on p a ≡ record { verdict = verdict_on p a; panel = next panel p a }
+  pub answers : (p : Panel) (a : Ask) → answer_on p a ≡ record { verdict = verdict_on p a; state = next panel p a }

@@ -7,12 +7,12 @@ use Rattle.panel_rules.specs.Answers.{enter_of}
 use Rattle.panel_rules.specs.Asks.{Ask, Start, Step, panel, verdict_on}
 use Rattle.panel_rules.specs.Soundness.{sound_test}
 use Rattle.panel_rules.specs.State.{Panel, agreed, agreed_word}
-use Rattle.panel_rules.specs.declared.Record.{Record}
-use Rattle.panel_rules.specs.declared.Record.TheVariants.{Empty, New, Old}
+use Rattle.panel_rules.specs.declared.record.Record.{Record}
+use Rattle.panel_rules.specs.declared.record.Record.TheVariants.{Empty, New, Old}
 use Rattle.panel_runs.specs.Counts.{QuietBy, active_in, firmware_by, leg_of, map_by, released_by, transit_in}
 use Rattle.panel_runs.specs.WholeRun.{Countdown}
 use Rattle.refusal.specs.Table.{code_of}
-use Rattle.refusal.specs.declared.Verdict.TheVariants.{Accepted}
+use Rattle.refusal.specs.Table.{Accepted}
 use Rattle.ring_rules.specs.Rules.{conclusive}
 use Rattle.ring_runs.specs.Requests.{announce, idle, pass, probe, send, take}
 use Rattle.runs.specs.Runs.{Request, next, run_of}
@@ -31,7 +31,7 @@ abbrev pub flags : List ℕ
 flags = 1 ∷ 0 ∷ 0 ∷ []
 
 abbrev pub first : Panel
-first = (enter_of 3 flags).panel
+first = (enter_of 3 flags).state
 
 -- firmware new and map new for each node, taken; a message more to node 2
 abbrev pub updates : List Ask
@@ -80,7 +80,7 @@ closed = restored ++ rounds ++ put_right ++ steps (announce ∷ send 0 1 ∷ [])
 
 -- a panel of one node on which nothing was done: one token move, and it is closed as old
 abbrev pub one : Panel
-one = (enter_of 1 (0 ∷ [])).panel
+one = (enter_of 1 (0 ∷ [])).state
 
 abbrev pub shut : Panel
 shut = run_of panel one (steps (probe ∷ announce ∷ []))

@@ -1,80 +1,128 @@
-// The fields of a ring as other languages lend them: whether the bytes of truths are 0 or 1, the ring that lies in them, and a ring put into them.
+// A ring as other languages lend it: its fields, with a byte for each truth.
 #![tactic(auto)]
 
-ghost use Rattle.std.specs.Prelude.{◌≡◌, ◌&&◌};
-ghost use Rattle.flag_bytes.specs.Flags.{are_flags, is_flag};
-ghost use Rattle.lent.specs.Ring.{lent, lent_of, state_of};
-ghost use Rattle.ring.specs.View.{state};
+ghost use Rattle.std.specs.Prelude.{◌≡◌};
+ghost use Rattle.lent.specs.Ring.{SteppedTo, truths_test};
+ghost use Rattle.refusal.specs.Answers.{verdict_from};
+ghost use Rattle.refusal.specs.Table.{code_of};
+ghost use Rattle.ring_fields.specs.Fields.{found_sound, ring_in, DroveTo, IsTokenMoved};
 
-use refusal::{COLOR_BYTES, RING_NODES};
+use refusal::{COLOR_BYTES, RING_NODES, Refusal};
 use ring::Ring;
+use ring_rules::Reason;
+use std::marker::Model;
 
-// Are the bytes of a lent ring's truths each 0 or 1?
-pub fn are_flags(active: [u8; RING_NODES], black: u8, closed: u8) -> bool
-    ensures { result ≡ (are_flags active && (is_flag black && is_flag closed)) }
-{
-    let column = flag_bytes::are_flags(&active);
-    column & ((black <= 1) & (closed <= 1))
+/// The fields of a ring, as `Ring` has them, with a byte for each truth: 1 for true, 0 for false. A byte above 1 makes a ring that is not sound.
+#[derive(Clone, Copy, Debug, PartialEq, Eq)]
+pub struct LentRing {
+    pub n: usize,
+    pub active: [u8; RING_NODES],
+    pub color: [u8; COLOR_BYTES],
+    pub sent: [u32; RING_NODES],
+    pub received: [u32; RING_NODES],
+    pub pending: [u32; RING_NODES],
+    pub pos: usize,
+    pub q: i64,
+    pub black: u8,
+    pub closed: u8,
 }
 
-// The ring that lies in lent fields.
-pub fn gathered(
-    n: usize,
-    active: [u8; RING_NODES],
-    color: [u8; COLOR_BYTES],
-    sent: [u32; RING_NODES],
-    received: [u32; RING_NODES],
-    pending: [u32; RING_NODES],
-    pos: usize,
-    q: i64,
-    black: u8,
-    closed: u8,
-) -> Ring
-    ensures { state result ≡ state_of (lent n active color sent received pending pos q black closed) }
-{
-    let flags = flag_bytes::ring_flags(active);
-    Ring {
-        n,
-        active: flags,
-        color,
-        sent,
-        received,
-        pending,
-        pos,
-        q,
-        black: black == 1,
-        closed: closed == 1,
+impl Model for LentRing {
+    ghost use Rattle.lent.specs.Ring.{Lent};
+
+    ghost Value = { Lent };
+
+    ghost view = { λ a. record { n = a.n; active = a.active; color = a.color; sent = a.sent; received = a.received; pending = a.pending; pos = a.pos; q = a.q; black = a.black; closed = a.closed } };
+
+    ghost inverse = { λ d. record { n = d.n; active = d.active; color = d.color; sent = d.sent; received = d.received; pending = d.pending; pos = d.pos; q = d.q; black = d.black; closed = d.closed } };
+}
+
+impl From<Ring> for LentRing {
+    ghost use Rattle.ring_fields.specs.Fields.{IsLentOf};
+
+    ghost from_gives = { IsLentOf };
+
+    fn from(ring: Ring) -> LentRing {
+        LentRing {
+            n: ring.n,
+            active: flag_bytes::bytes_of(&ring.active),
+            color: ring.color,
+            sent: ring.sent,
+            received: ring.received,
+            pending: ring.pending,
+            pos: ring.pos,
+            q: ring.q,
+            black: u8::from(ring.black),
+            closed: u8::from(ring.closed),
+        }
     }
 }
 
-// The ring put into the lent fields, all but the number of nodes.
-pub fn scatter(
-    ring: Ring,
-    active: &mut [u8; RING_NODES],
-    color: &mut [u8; COLOR_BYTES],
-    sent: &mut [u32; RING_NODES],
-    received: &mut [u32; RING_NODES],
-    pending: &mut [u32; RING_NODES],
-    pos: &mut usize,
-    q: &mut i64,
-    black: &mut u8,
-    closed: &mut u8,
-)
-    ensures { lent ring.n active.new color.new sent.new received.new pending.new pos.new q.new black.new closed.new ≡ lent_of (state ring) }
-{
-    let active_now = ring.active;
-    *active = flag_bytes::ring_bytes(active_now);
-    let color_now = ring.color;
-    *color = color_now;
-    let sent_now = ring.sent;
-    *sent = sent_now;
-    let received_now = ring.received;
-    *received = received_now;
-    let pending_now = ring.pending;
-    *pending = pending_now;
-    *pos = ring.pos;
-    let q_now = ring.q;
-    *q = q_now;
-    *black = flag_bytes::byte(ring.black);
-    *closed = flag_bytes::byte(ring.closed);
+impl LentRing {
+    // Is each byte of a truth 0 or 1?
+    #[tactic(auto, unfolding(lent::specs::Ring::truths_test))]
+    fn has_truths(&self) -> bool
+        ensures { result ≡ truths_test self.now }
+    {
+        flag_bytes::are_flags(&self.active) && self.black <= 1 && self.closed <= 1
+    }
+
+    /// The ring that lies in the fields. A byte of a truth that is above 1 is refused with 3.
+    pub fn ring(&self) -> Result<Ring, Refusal>
+        ensures { result ≡ ring_in self.now }
+    {
+        if !self.has_truths() {
+            return Err(Refusal::Unsound);
+        }
+        Ok(Ring {
+            n: self.n,
+            active: flag_bytes::truths(&self.active),
+            color: self.color,
+            sent: self.sent,
+            received: self.received,
+            pending: self.pending,
+            pos: self.pos,
+            q: self.q,
+            black: self.black == 1,
+            closed: self.closed == 1,
+        })
+    }
+
+    /// Is each byte of a truth 0 or 1, and the ring sound?
+    pub fn is_sound(&self) -> bool
+        ensures { result ≡ found_sound self.now }
+    {
+        match self.ring() {
+            Ok(ring) => ring.is_sound(),
+            Err(_) => false,
+        }
+    }
+
+    /// A step by its kind number, 1 to 6, in place; whatever is refused leaves the fields as they were.
+    pub fn step(&mut self, kind: usize, i: usize, j: usize) -> Result<(), Refusal>
+        ensures told { SteppedTo self.old kind i j (code_of (verdict_from result)) self.new }
+        ensures nodes { self.new.n ≡ self.old.n }
+    {
+        match self.ring()?.step(flag_bytes::kind_byte(kind), i, j) {
+            Ok(next) => {
+                *self = LentRing::from(next);
+                Ok(())
+            }
+            Err(refused) => Err(refused.refusal),
+        }
+    }
+
+    /// Token moves, at most `limit`, in place: why they end, and how many they are, 0 to 1,000; a refused driver leaves the fields as they were.
+    pub fn drive(&mut self, limit: usize) -> Result<(Reason, u32), Refusal>
+        ensures told { DroveTo self.old limit result self.new }
+        ensures kept { IsTokenMoved self.old self.new }
+    {
+        match self.ring()?.drive(flag_bytes::limit_word(limit)) {
+            Ok(driven) => {
+                *self = LentRing::from(driven.ring);
+                Ok((driven.reason, driven.moves))
+            }
+            Err(refused) => Err(refused.refusal),
+        }
+    }
 }

@@ -8,7 +8,7 @@ use native.Mathlib.Omega.{arith}
 use Rattle.laws.proofs.Sums.{total_zeros}
 use Rattle.laws.specs.Sums.{total}
 use Rattle.refusal.specs.Table.{code_of, send_limit}
-use Rattle.refusal.specs.declared.Verdict.TheVariants.{Accepted}
+use Rattle.refusal.specs.Table.{Accepted}
 use Rattle.ring_rules.proofs.Start.{fits}
 use Rattle.ring_rules.proofs.Theorems.{limit_met, sound_kept, start_answered}
 use Rattle.ring_rules.specs.Answers.{answer_of, verdict_of}

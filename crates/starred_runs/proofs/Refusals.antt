@@ -6,7 +6,7 @@ use Rattle.decimal.specs.Number.{checked, kept_of, scan_of}
 use Rattle.decimal.specs.Text.{decimal, digits}
 use Rattle.decimal.specs.Word.{starts}
 use Rattle.first_line.specs.Read.{entries_of, entry_of, first_at, lists_at, ring_after, root_after, start_at, tree_after}
-use Rattle.forms.specs.Read.{closed_of, ends_line, lined, made_of, one_of, read_by, ring_at, second_of, spaced_of, tree_at, two_of}
+use Rattle.forms.specs.Read.{closed_at, closed_of, ends_line, lined, made_of, one_of, read_by, ring_at, second_of, spaced_of, tree_at, two_of}
 use Rattle.laws.specs.Sums.{count_to, sum_to}
 use Rattle.log_rules.specs.Answers.{line_told}
 use Rattle.log_rules.specs.Lines.{split}
@@ -45,5 +45,5 @@ use Rattle.tree_rules.specs.Start as tree_start
 use Rattle.tree_runs.specs.Requests as tree_requests
 
 pub refusals_pass : all_cases_pass refusals ≡ true
-unfolding refusals order outside limits passes all_cases_pass ring_requests.numbers tree_requests.numbers is_black blackened whitened ◌⊖◌ is_positive is_zero is_same sum_to ring_rules.conclusive ring_sound.shape_test ring_sound.range_test flow_test sum_test passive_above white_to gathered_test safra_test unused_test ring_sound.closed_test ring_sound.sound_test may_probe may_pass ring.verdict_of may_move move_of drive_from drive_of active_from color_from flags_test ring_start.first_state ring_start.blank ring_start.start_of ring_start.start_verdict count_to messages_from children climb tree_rules.conclusive tree_sound.shape_test tree_sound.range_test engager_test chain_test balance_test rest_test pair_test place_test limit_test tree_sound.closed_test tree_sound.sound_test may_leave tree.verdict_of tree_start.first_state tree_start.blank tree_start.start_of tree_start.start_verdict decimal digits children_text node_text write_verdict written_of line_told split lines_told rest_of ring.answer_of tree.answer_of in_transit black_nodes acks_total starts scan_of checked number.number_at kept_of spaced_of closed_of one_of second_of two_of made_of read_by ends_line lined ring_at tree_at entry_of entries_of first.active_read first.black_read lists_at ring_after root_after tree_after start_at first_at opened_of space_after inner_of inside_at closed_read update_at wrapped_at nodes_to fixed sound_table_test verdict_on
+unfolding refusals order outside limits passes all_cases_pass ring_requests.numbers tree_requests.numbers is_black blackened whitened ◌⊖◌ is_positive is_zero is_same sum_to ring_rules.conclusive ring_sound.shape_test ring_sound.range_test flow_test sum_test passive_above white_to gathered_test safra_test unused_test ring_sound.closed_test ring_sound.sound_test may_probe may_pass ring.verdict_of may_move move_of drive_from drive_of active_from color_from flags_test ring_start.first_state ring_start.blank ring_start.start_of ring_start.start_verdict count_to messages_from children climb tree_rules.conclusive tree_sound.shape_test tree_sound.range_test engager_test chain_test balance_test rest_test pair_test place_test limit_test tree_sound.closed_test tree_sound.sound_test may_leave tree.verdict_of tree_start.first_state tree_start.blank tree_start.start_of tree_start.start_verdict decimal digits children_text node_text write_verdict written_of line_told split lines_told rest_of ring.answer_of tree.answer_of in_transit black_nodes acks_total starts scan_of checked number.number_at kept_of spaced_of closed_at closed_of one_of second_of two_of made_of read_by ends_line lined ring_at tree_at entry_of entries_of first.active_read first.black_read lists_at ring_after root_after tree_after start_at first_at opened_of space_after inner_of inside_at closed_read update_at wrapped_at nodes_to fixed sound_table_test verdict_on
 refusals_pass = refl

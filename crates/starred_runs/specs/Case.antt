@@ -12,8 +12,8 @@ use Rattle.log_rules.specs.Output.{output_of}
 use Rattle.refusal.specs.Table.{code_of, number_of}
 use Rattle.refusal.specs.declared.Refusal.{Refusal}
 use Rattle.ring_rules.specs.Driver.{drive_of, reason_number}
-use Rattle.ring_rules.specs.declared.Reason.{Reason}
-use Rattle.ring_rules.specs.declared.Reason.TheVariants.{Conclusive, Spent, Waiting}
+use Rattle.ring_rules.specs.Driver.{Reason}
+use Rattle.ring_rules.specs.Driver.{Conclusive, Spent, Waiting}
 use Rattle.runs.specs.Runs.{Request, accepted_of, run_of}
 use Rattle.signed.specs.Integers.{is_positive, is_same}
 use Rattle.table_rules.specs.Answers.{Ask, Start, Step, verdict_on}

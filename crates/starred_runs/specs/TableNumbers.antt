@@ -3,7 +3,7 @@ use Rattle.std.specs.Prelude.{ℕ, replicate, set, List, [], ◌∷◌}
 use Rattle.refusal.specs.declared.Refusal.TheVariants.{Closed, JobWord, MoveLimit, NodeCount, NotAForm, RuleFails, SendLimit, ShortBuffer, StartFlags, UnequalMarks, UnknownKind, UnknownNode, UnknownUpdate, Unsound}
 use Rattle.ring_rules.specs.Start.{start_of}
 use Rattle.ring_rules.specs.State.{State}
-use Rattle.ring_rules.specs.declared.Reason.TheVariants.{Conclusive, Spent, Stopped, Waiting}
+use Rattle.ring_rules.specs.Driver.{Conclusive, Spent, Stopped, Waiting}
 use Rattle.ring_runs.specs.Counts.{ring}
 use Rattle.ring_runs.specs.Requests.{idle, probe, take}
 use Rattle.runs.specs.Runs.{next}

@@ -1,155 +1,127 @@
-// The fields of a table as other languages lend them, a column of eight places each: whether the bytes of truths of started updates are 0 or 1, the rings
-// that lie in them, and a ring put into them.
+// The fields of a table as other languages lend them, a column of eight places each: the table that lies in them, and its requests in place.
 #![tactic(auto)]
 
-ghost use Rattle.std.specs.Prelude.{◌≡◌, ◌&&◌, ◌||◌, ◌<◌, eqb, get_or, []};
-ghost use Rattle.laws.specs.Places.{all_to};
-ghost use Rattle.flag_bytes.specs.Flags.{are_flags, is_flag};
-ghost use Rattle.lent.specs.Ring.{lent_of, state_of};
-ghost use Rattle.lent.specs.Table.{lent_table, fields_at, put_fields, table_in};
-ghost use Rattle.ring.specs.View.{state};
-ghost use Rattle.table.specs.View.{slot_by, table_by};
-ghost use Rattle.table_rules.specs.Table.{slot_at};
+ghost use Rattle.std.specs.Prelude.{◌≡◌, ◌&&◌, ◌<◌};
+ghost use Rattle.lent.specs.Table.{AnsweredTo, fields_at, put_fields, table_in, table_truths};
+ghost use Rattle.refusal.specs.Answers.{verdict_from};
+ghost use Rattle.refusal.specs.Table.{code_of};
+ghost use Rattle.table_fields.specs.View.{LiesIn};
+ghost use Rattle.table_rules.specs.Answers.{Start, step_ask};
+ghost use Rattle.table_rules.specs.Soundness.{sound_table_test};
 
-use refusal::{COLOR_BYTES, RING_NODES, UPDATES};
-use ring::Ring;
+use refusal::{COLOR_BYTES, RING_NODES, Refusal, UPDATES};
+use ring_fields::LentRing;
+use std::marker::Model;
+use table::Table;
 
-// Is an update of n nodes not started, or are the bytes of its truths each 0 or 1?
-pub fn are_flags(n: usize, active: [u8; RING_NODES], black: u8, closed: u8) -> bool
-    ensures { result ≡ (eqb n 0 || (are_flags active && (is_flag black && is_flag closed))) }
-{
-    let column = flag_bytes::are_flags(&active);
-    (n == 0) | (column & ((black <= 1) & (closed <= 1)))
+/// A table as other languages lend it, truths as bytes: 1 is true, 0 is false. A place of no nodes is not started, and nothing else of it is read.
+#[derive(Clone, Copy, Debug, PartialEq, Eq)]
+pub struct LentTable {
+    pub n: [usize; UPDATES],
+    pub pos: [usize; UPDATES],
+    pub q: [i64; UPDATES],
+    pub black: [u8; UPDATES],
+    pub closed: [u8; UPDATES],
+    pub active: [[u8; RING_NODES]; UPDATES],
+    pub color: [[u8; COLOR_BYTES]; UPDATES],
+    pub sent: [[u32; RING_NODES]; UPDATES],
+    pub received: [[u32; RING_NODES]; UPDATES],
+    pub pending: [[u32; RING_NODES]; UPDATES],
 }
 
-// Is this so of each of the eight?
-pub fn all_flags(
-    n: &[usize; UPDATES],
-    black: &[u8; UPDATES],
-    closed: &[u8; UPDATES],
-    active: &[[u8; RING_NODES]; UPDATES],
-) -> bool
-    ensures { result ≡ all_to 8 (λ v. eqb (get_or n.now v 0) 0 || (are_flags (get_or active.now v []) && (is_flag (get_or black.now v 0) && is_flag (get_or closed.now v 0)))) }
-{
-    let mut ok = true;
-    let mut v: usize = 0;
-    while v < UPDATES {
-        let bytes = active[v];
-        ok = ok & are_flags(n[v], bytes, black[v], closed[v]);
-        v += 1;
+impl Model for LentTable {
+    ghost use Rattle.lent.specs.Table.{LentTable};
+
+    ghost Value = { LentTable };
+
+    ghost view = { λ a. record { n = a.n; pos = a.pos; q = a.q; black = a.black; closed = a.closed; active = a.active; color = a.color; sent = a.sent; received = a.received; pending = a.pending } };
+
+    ghost inverse = { λ d. record { n = d.n; pos = d.pos; q = d.q; black = d.black; closed = d.closed; active = d.active; color = d.color; sent = d.sent; received = d.received; pending = d.pending } };
+}
+
+impl LentTable {
+    // The fields of update u.
+    fn place(&self, u: usize) -> LentRing
+        requires { u < 8 }
+        ensures { result ≡ fields_at self.now u }
+    {
+        LentRing {
+            n: self.n[u],
+            active: self.active[u],
+            color: self.color[u],
+            sent: self.sent[u],
+            received: self.received[u],
+            pending: self.pending[u],
+            pos: self.pos[u],
+            q: self.q[u],
+            black: self.black[u],
+            closed: self.closed[u],
+        }
     }
-    ok
-}
 
-// The ring that lies at update u.
-pub fn ring_at(
-    n: &[usize; UPDATES],
-    pos: &[usize; UPDATES],
-    q: &[i64; UPDATES],
-    black: &[u8; UPDATES],
-    closed: &[u8; UPDATES],
-    active: &[[u8; RING_NODES]; UPDATES],
-    color: &[[u8; COLOR_BYTES]; UPDATES],
-    sent: &[[u32; RING_NODES]; UPDATES],
-    received: &[[u32; RING_NODES]; UPDATES],
-    pending: &[[u32; RING_NODES]; UPDATES],
-    u: usize,
-) -> Ring
-    requires { u < 8 }
-    ensures { state result ≡ state_of (fields_at (lent_table n.now pos.now q.now black.now closed.now active.now color.now sent.now received.now pending.now) u) }
-{
-    let bytes = active[u];
-    let sum = q[u];
-    let color_there = color[u];
-    let sent_there = sent[u];
-    let received_there = received[u];
-    let pending_there = pending[u];
-    let flags = flag_bytes::ring_flags(bytes);
-    Ring {
-        n: n[u],
-        active: flags,
-        color: color_there,
-        sent: sent_there,
-        received: received_there,
-        pending: pending_there,
-        pos: pos[u],
-        q: sum,
-        black: black[u] == 1,
-        closed: closed[u] == 1,
+    /// The table that lies there; refused as not sound where a byte that stands for a truth of a started update is neither 0 nor 1.
+    pub fn table(&self) -> Result<Table, Refusal>
+        ensures { LiesIn self.now result }
+    {
+        let mut table = Table::empty();
+        for u in 0..UPDATES {
+            if self.n[u] != 0 {
+                table.rings[u] = self.place(u).ring()?;
+            }
+        }
+        Ok(table)
     }
-}
 
-// The eight rings that lie in lent fields.
-pub fn gathered(
-    n: &[usize; UPDATES],
-    pos: &[usize; UPDATES],
-    q: &[i64; UPDATES],
-    black: &[u8; UPDATES],
-    closed: &[u8; UPDATES],
-    active: &[[u8; RING_NODES]; UPDATES],
-    color: &[[u8; COLOR_BYTES]; UPDATES],
-    sent: &[[u32; RING_NODES]; UPDATES],
-    received: &[[u32; RING_NODES]; UPDATES],
-    pending: &[[u32; RING_NODES]; UPDATES],
-) -> [Ring; UPDATES]
-    ensures { table_by result ≡ table_in (lent_table n.now pos.now q.now black.now closed.now active.now color.now sent.now received.now pending.now) }
-{
-    let first = ring_at(
-        n, pos, q, black, closed, active, color, sent, received, pending, 0,
-    );
-    let mut rings = [first; UPDATES];
-    let mut v: usize = 1;
-    while v < UPDATES {
-        rings[v] = ring_at(
-            n, pos, q, black, closed, active, color, sent, received, pending, v,
-        );
-        v += 1;
+    // Other fields put at update u.
+    fn put(&mut self, u: usize, ring: &LentRing)
+        requires { u < 8 }
+        ensures { self.new ≡ put_fields self.old u ring.now }
+    {
+        self.n[u] = ring.n;
+        self.pos[u] = ring.pos;
+        self.q[u] = ring.q;
+        self.black[u] = ring.black;
+        self.closed[u] = ring.closed;
+        self.active[u] = ring.active;
+        self.color[u] = ring.color;
+        self.sent[u] = ring.sent;
+        self.received[u] = ring.received;
+        self.pending[u] = ring.pending;
     }
-    rings
-}
 
-// One of eight rings.
-pub fn one_of(rings: [Ring; UPDATES], u: usize) -> Ring
-    requires { u < 8 }
-    ensures { slot_by result ≡ slot_at (table_by rings) u }
-{
-    rings[u]
-}
+    /// A start of update u in place; a refusal changes nothing.
+    pub fn start(&mut self, u: usize, nodes: usize, flags: &[u8]) -> Result<(), Refusal>
+        ensures { AnsweredTo self.old (Start u nodes flags.now) (code_of (verdict_from result)) self.new }
+    {
+        match self.table()?.start(u, nodes, flags) {
+            Ok(begun) => {
+                self.put(u, &LentRing::from(begun.rings[u]));
+                Ok(())
+            }
+            Err(refused) => Err(refused.refusal),
+        }
+    }
 
-// A ring put into the lent fields of update u.
-pub fn scatter(
-    n: &mut [usize; UPDATES],
-    pos: &mut [usize; UPDATES],
-    q: &mut [i64; UPDATES],
-    black: &mut [u8; UPDATES],
-    closed: &mut [u8; UPDATES],
-    active: &mut [[u8; RING_NODES]; UPDATES],
-    color: &mut [[u8; COLOR_BYTES]; UPDATES],
-    sent: &mut [[u32; RING_NODES]; UPDATES],
-    received: &mut [[u32; RING_NODES]; UPDATES],
-    pending: &mut [[u32; RING_NODES]; UPDATES],
-    u: usize,
-    ring: Ring,
-)
-    requires { u < 8 }
-    ensures { lent_table n.new pos.new q.new black.new closed.new active.new color.new sent.new received.new pending.new
-        ≡ put_fields (lent_table n.old pos.old q.old black.old closed.old active.old color.old sent.old received.old pending.old) u (lent_of (state ring)) }
-{
-    let flags = ring.active;
-    let color_now = ring.color;
-    let sent_now = ring.sent;
-    let received_now = ring.received;
-    let pending_now = ring.pending;
-    let sum = ring.q;
-    let bytes = flag_bytes::ring_bytes(flags);
-    n[u] = ring.n;
-    pos[u] = ring.pos;
-    q[u] = sum;
-    black[u] = flag_bytes::byte(ring.black);
-    closed[u] = flag_bytes::byte(ring.closed);
-    active[u] = bytes;
-    color[u] = color_now;
-    sent[u] = sent_now;
-    received[u] = received_now;
-    pending[u] = pending_now;
+    /// A step of update u in place, by its kind number; a refusal changes nothing.
+    pub fn step(&mut self, u: usize, kind: usize, i: usize, j: usize) -> Result<(), Refusal>
+        ensures { AnsweredTo self.old (step_ask u kind i j) (code_of (verdict_from result)) self.new }
+    {
+        match self.table()?.step(u, flag_bytes::kind_byte(kind), i, j) {
+            Ok(next) => {
+                self.put(u, &LentRing::from(next.rings[u]));
+                Ok(())
+            }
+            Err(refused) => Err(refused.refusal),
+        }
+    }
+
+    /// Is the table sound?
+    pub fn is_sound(&self) -> bool
+        ensures { result ≡ (table_truths self.now && sound_table_test (table_in self.now)) }
+    {
+        match self.table() {
+            Ok(table) => table.is_sound(),
+            Err(_) => false,
+        }
+    }
 }

@@ -7,7 +7,7 @@ use mathlib.Core.List.{List, [], ◌∷◌}
 use mathlib.Core.Path.{◌∙◌, ◌≡◌, ap, ap₂, refl, subst, sym}
 use native.Mathlib.Omega.{arith}
 use Rattle.refusal.specs.Table.{settle}
-use Rattle.refusal.specs.declared.Verdict.{Verdict}
+use Rattle.refusal.specs.Table.{Verdict}
 use Rattle.ring_rules.specs.State.{State}
 use Rattle.runs.specs.Runs.{run_of}
 use Rattle.table_rules.proofs.Keeps.{next_fixed, next_other, next_own, next_sound}

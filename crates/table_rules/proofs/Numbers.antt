@@ -11,7 +11,7 @@ use native.Mathlib.Omega.{arith}
 use Rattle.laws.proofs.Tests.{both, both_true, false_true, split}
 use Rattle.refusal.proofs.Table.{accepts, none_holds}
 use Rattle.refusal.specs.Table.{NoneHolds, also, code_of, first_of, step_rows}
-use Rattle.refusal.specs.declared.Verdict.TheVariants.{Accepted}
+use Rattle.refusal.specs.Table.{Accepted}
 use Rattle.ring_rules.specs.Answers.{outside, sends_spent, unknown, verdict_of}
 use Rattle.ring_rules.specs.Rules.{guard, kind_of}
 use Rattle.ring_rules.specs.Soundness.{sound_test}

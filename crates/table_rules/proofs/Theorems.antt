@@ -5,8 +5,8 @@ use mathlib.Core.Path.{◌∙◌, ◌≡◌, ap, refl, subst, sym}
 use native.Mathlib.Omega.{arith}
 use Rattle.refusal.proofs.Table.{accepts, first_row, none_holds}
 use Rattle.refusal.specs.Table.{code_of, settle}
-use Rattle.refusal.specs.declared.Verdict.{Verdict}
-use Rattle.refusal.specs.declared.Verdict.TheVariants.{Accepted, Refused}
+use Rattle.refusal.specs.Table.{Verdict}
+use Rattle.refusal.specs.Table.{Accepted, Refused}
 use Rattle.ring_rules.proofs.Start.{first_open, fits}
 use Rattle.ring_rules.specs.Start.{first_state}
 use Rattle.runs.specs.Runs.{accepted_of, run_of}

@@ -2,7 +2,7 @@
 use Rattle.std.specs.Prelude.{ℕ, eqb, ltb, cond, not, List, [], ◌∷◌}
 use Rattle.refusal.specs.Table.{◌⟶◌, first_of, settle}
 use Rattle.refusal.specs.declared.Refusal.TheVariants.{NodeCount, UnknownUpdate}
-use Rattle.refusal.specs.declared.Verdict.{Verdict}
+use Rattle.refusal.specs.Table.{Verdict}
 use Rattle.ring_rules.specs.Rules.{kind_of}
 use Rattle.ring_rules.specs.Start.{start_table}
 use Rattle.runs.specs.Runs.{Machine}

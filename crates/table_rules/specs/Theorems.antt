@@ -2,7 +2,7 @@
 use Rattle.std.specs.Prelude.{◌+◌, ◌<◌, ◌≤◌, ℕ, false, true, List, ◌↔◌, ◌≢◌, ◌⊎◌, ◌≡◌}
 use Rattle.refusal.specs.Table.{FirstIs, NoneHolds, Row, code_of, send_limit}
 use Rattle.refusal.specs.declared.Refusal.{Refusal}
-use Rattle.refusal.specs.declared.Verdict.TheVariants.{Accepted, Refused}
+use Rattle.refusal.specs.Table.{Accepted, Refused}
 use Rattle.ring_rules.specs.Answers.{step_of}
 use Rattle.ring_rules.specs.Rules.{Announce, Idle, Kind, Pass, Probe, Send, Take, Unknown, kind_of}
 use Rattle.ring_rules.specs.Start.{flags_test, start_verdict}

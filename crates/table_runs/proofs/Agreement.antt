@@ -7,8 +7,8 @@ use mathlib.Core.Logic.{◌⊎◌, inl}
 use mathlib.Core.Path.{◌∙◌, ◌≡◌, ap, ap₂, refl, subst, sym}
 use native.Mathlib.Omega.{arith}
 use Rattle.refusal.specs.Table.{send_limit, settle}
-use Rattle.refusal.specs.declared.Verdict.{Verdict}
-use Rattle.refusal.specs.declared.Verdict.TheVariants.{Accepted, Refused}
+use Rattle.refusal.specs.Table.{Verdict}
+use Rattle.refusal.specs.Table.{Accepted, Refused}
 use Rattle.ring_rules.proofs.Fields.{same_n}
 use Rattle.ring_rules.proofs.Theorems.{start_answered}
 use Rattle.ring_rules.specs.Answers.{answer_of}

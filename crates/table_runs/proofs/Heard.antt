@@ -7,8 +7,8 @@ use mathlib.Core.List.{List, [], ◌++◌, ◌∷◌, append_assoc, append-nil}
 use mathlib.Core.Path.{◌∙◌, ◌≡◌, ap, ap₂, refl, sym}
 use Rattle.laws.proofs.Tests.{neither}
 use Rattle.refusal.specs.Table.{is_accepted, settle}
-use Rattle.refusal.specs.declared.Verdict.{Verdict}
-use Rattle.refusal.specs.declared.Verdict.TheVariants.{Accepted, Refused}
+use Rattle.refusal.specs.Table.{Verdict}
+use Rattle.refusal.specs.Table.{Accepted, Refused}
 use Rattle.ring_rules.specs.Start.{first_state}
 use Rattle.ring_rules.specs.State.{State}
 use Rattle.ring_runs.specs.Counts.{ring}

@@ -8,8 +8,8 @@ use mathlib.Core.Path.{◌∙◌, ◌≡◌, ap, ap₂, refl, subst, sym}
 use Rattle.refusal.proofs.Table.{accepts, none_holds}
 use Rattle.refusal.specs.Table.{NoneHolds, also, first_of, is_accepted, settle}
 use Rattle.refusal.specs.declared.Refusal.TheVariants.{UnknownUpdate}
-use Rattle.refusal.specs.declared.Verdict.{Verdict}
-use Rattle.refusal.specs.declared.Verdict.TheVariants.{Accepted, Refused}
+use Rattle.refusal.specs.Table.{Verdict}
+use Rattle.refusal.specs.Table.{Accepted, Refused}
 use Rattle.ring_rules.proofs.Start.{first_open, fits}
 use Rattle.ring_rules.specs.Soundness.{Open, Sound}
 use Rattle.ring_rules.specs.Start.{first_state, start_table, start_verdict}

@@ -8,8 +8,8 @@ use mathlib.Core.Logic.{◌⊎◌, inl, inr}
 use mathlib.Core.Path.{◌∙◌, ◌≡◌, ap, refl, subst, sym}
 use Rattle.laws.proofs.Tests.{false_true, neither}
 use Rattle.refusal.specs.Table.{settle}
-use Rattle.refusal.specs.declared.Verdict.{Verdict}
-use Rattle.refusal.specs.declared.Verdict.TheVariants.{Accepted, Refused}
+use Rattle.refusal.specs.Table.{Verdict}
+use Rattle.refusal.specs.Table.{Accepted, Refused}
 use Rattle.ring_rules.proofs.Theorems.{start_answered}
 use Rattle.ring_rules.specs.Soundness.{Open}
 use Rattle.ring_rules.specs.Start.{first_state, start_verdict}

@@ -4,7 +4,7 @@
 use Rattle.std.specs.Prelude.{◌<◌, ◌≤◌, ℕ, false, true, List, [], ◌∷◌, ◌↔◌, ◌≢◌, ◌⊎◌, ◌≡◌}
 use Rattle.refusal.specs.Table.{send_limit, settle}
 use Rattle.refusal.specs.declared.Refusal.TheVariants.{SendLimit}
-use Rattle.refusal.specs.declared.Verdict.TheVariants.{Accepted, Refused}
+use Rattle.refusal.specs.Table.{Accepted, Refused}
 use Rattle.ring_rules.specs.Rules.{Announce}
 use Rattle.ring_rules.specs.Start.{first_state}
 use Rattle.ring_rules.specs.State.{State}

@@ -2,8 +2,8 @@
 -- requests are u's since its latest start.
 use Rattle.std.specs.Prelude.{◌+◌, ◌-◌, ◌<◌, ℕ, eqb, Bool, ◌&&◌, ◌||◌, cond, false, List, [], ◌++◌, ◌∷◌, ◌≡◌}
 use Rattle.refusal.specs.Table.{is_accepted}
-use Rattle.refusal.specs.declared.Verdict.{Verdict}
-use Rattle.refusal.specs.declared.Verdict.TheVariants.{Accepted}
+use Rattle.refusal.specs.Table.{Verdict}
+use Rattle.refusal.specs.Table.{Accepted}
 use Rattle.ring_rules.specs.Start.{first_state}
 use Rattle.ring_rules.specs.State.{State, active_at, pending_at}
 use Rattle.ring_runs.specs.Counts.{active_after, ring, sends_in, sends_to, takes_by}

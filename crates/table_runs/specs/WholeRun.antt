@@ -2,7 +2,7 @@
 -- requests to any updates, refused ones included. The proof is in proofs/WholeRun.antt.
 use Rattle.std.specs.Prelude.{◌*◌, ◌+◌, ◌-◌, ◌<◌, ◌≤◌, ℕ, length, false, true, List, [], ◌++◌, ◌∷◌, ◌↔◌, ◌≢◌, ◌≡◌}
 use Rattle.refusal.specs.Table.{code_of, send_limit}
-use Rattle.refusal.specs.declared.Verdict.TheVariants.{Accepted}
+use Rattle.refusal.specs.Table.{Accepted}
 use Rattle.ring_rules.specs.Rules.{Announce, Send}
 use Rattle.ring_rules.specs.Soundness.{Open}
 use Rattle.ring_rules.specs.Start.{first_state}

@@ -1,22 +1,7 @@
--- The code's structs as the definitions see them, field by field.
-use Rattle.tree_rules.specs.Answers.{Answer}
-use Rattle.tree_rules.specs.State.{State}
-use Rattle.tree.specs.declared.Stepped.{Stepped}
-use Rattle.tree.specs.declared.Tree.{Tree}
+-- The engager of a node as the code tells it.
+use Rattle.std.specs.Prelude.{ℕ, cond, Option, None, Some}
+use Rattle.tree_rules.specs.State.{State, engaged, engager_at}
 
-abbrev pub state : Tree → State
-state t =
-    record {
-      n = t.n;
-      root = t.root;
-      active = t.active;
-      engager = t.engager;
-      unacked = t.unacked;
-      transit = t.transit;
-      acks = t.acks;
-      sends = t.sends;
-      closed = t.closed;
-    }
-
-abbrev pub answer : Stepped → Answer
-answer s = record { verdict = s.verdict; state = state s.tree }
+-- the node that engaged node i, where one did
+abbrev pub engager_told : State → ℕ → Option ℕ
+engager_told t i = cond (engaged t i) (Some (engager_at t i)) None

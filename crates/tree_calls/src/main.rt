@@ -1,11 +1,12 @@
-// Document 01, "Runs to check", by calls: a sound state with 999,999 accepted sends. One more is accepted, the next is 9, and takes
+// A run by calls: a sound state with 999,999 accepted sends. One more is accepted, the next is 9, and takes
 // still pass. Each line is the number of an answer, 0 where the step is accepted; then the acknowledgements in
 // transit before and after one is acknowledged, each with the number of its answer before it, 3 of an unsound tree.
 #![tactic(auto)]
 
-use refusal::{Count, SEND_LIMIT, TREE_NODES, TREE_PAIRS};
+use refusal::{SEND_LIMIT, TREE_NODES, TREE_PAIRS};
 use std::io;
-use tree::{Stepped, Tree};
+use tell::{tell, tell_count};
+use tree::Tree;
 use tree_rules::NO_ENGAGER;
 
 // Two nodes: node 0, the root, is active and sent 999,999 messages, all of them in transit to node 1.
@@ -31,41 +32,21 @@ fn busy() -> Tree {
     }
 }
 
-fn line(rt: &HostRuntime, n: u64) -> io::Result<()> {
-    println!(rt; "{n}")?;
-    Ok(())
-}
-
-fn told(rt: &HostRuntime, s: Stepped) -> io::Result<Tree> {
-    let verdict = s.verdict;
-    line(rt, refusal::code(verdict) as u64)?;
-    let tree = s.tree;
-    Ok(tree)
-}
-
-fn counted(rt: &HostRuntime, c: Count) -> io::Result<()> {
-    let verdict = c.verdict;
-    line(rt, refusal::code(verdict) as u64)?;
-    line(rt, c.number)?;
-    Ok(())
-}
-
 // The tree with one acknowledgement more than is owed: it is not sound.
-fn spoiled(tree: Tree) -> Tree {
-    let mut next = tree;
-    next.acks[0] = 1;
-    next
+fn spoiled(mut tree: Tree) -> Tree {
+    tree.acks[0] = 1;
+    tree
 }
 
 fn main(rt: HostRuntime) -> io::Result<()> {
-    let first = told(&rt, busy().send(0, 1))?;
-    let second = told(&rt, first.send(0, 1))?;
-    let third = told(&rt, second.take(1, 0))?;
-    let fourth = told(&rt, third.send(1, 0))?;
-    let fifth = told(&rt, fourth.take(1, 0))?;
-    let last = told(&rt, fifth.ack(0))?;
-    counted(&rt, fifth.acks_in_transit())?;
-    counted(&rt, last.acks_in_transit())?;
-    counted(&rt, spoiled(last).acks_in_transit())?;
-    Ok(())
+    let mut out = io::writer(&rt);
+    let first = tell(&mut out, busy().send(0, 1))?;
+    let second = tell(&mut out, first.send(0, 1))?;
+    let third = tell(&mut out, second.take(1, 0))?;
+    let fourth = tell(&mut out, third.send(1, 0))?;
+    let fifth = tell(&mut out, fourth.take(1, 0))?;
+    let last = tell(&mut out, fifth.ack(0))?;
+    tell_count(&mut out, fifth.acks_in_transit())?;
+    tell_count(&mut out, last.acks_in_transit())?;
+    tell_count(&mut out, spoiled(last).acks_in_transit())
 }

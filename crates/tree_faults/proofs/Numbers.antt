@@ -1,4 +1,5 @@
 -- Numbers in two texts that begin alike, and a number that ends at a place. Assumes nothing.
+use Rattle.std.specs.Prelude.{Some, None}
 use Prim.Native.Nat.{◌*◌, ◌+◌, ◌-◌, ◌<◌, ◌≤◌, suc, zero, ℕ}
 use borrow.Author.Tests.{le-ltb, lt-leb, ne_eqb}
 use lib.Dec.{eqb}
@@ -14,9 +15,7 @@ use Rattle.decimal.proofs.Cases.{both_off, in_text}
 use Rattle.decimal.proofs.Decimal.{decimal_small, decimal_some}
 use Rattle.decimal.proofs.Numbers.{Digits, after, decimal_digits, decimal_head, decimal-value, digit_low, more_digit, no_number, scan_end, scan_more, scan_none, value}
 use Rattle.decimal.specs.Exact.{Stands}
-use Rattle.decimal.specs.Number.{capped, checked, digit_b, number_at, scan_of, stopped}
-use Rattle.decimal.specs.declared.Scan.{Scan}
-use Rattle.decimal.specs.declared.Num.TheVariants.{Value, Wrong}
+use Rattle.decimal.specs.Number.{capped, checked, digit_b, number_at, scan_of}
 use Rattle.decimal.specs.Text.{decimal}
 use Rattle.laws.proofs.Tests.{false_true, split}
 use Rattle.tree_text.specs.Text.{opening}
@@ -153,7 +152,7 @@ same_number s a c v e w p q st su =
 
 -- ---- no number
 
-scan_on : (l : List ℕ) (v i : ℕ) → i ≤ (scan_of l v i).at
+scan_on : (l : List ℕ) (v i : ℕ) → i ≤ (scan_of l v i).1
 unfolding scan_of
 scan_on [] v i = omega arith
 scan_on (b ∷ l) v i =
@@ -162,25 +161,25 @@ scan_on (b ∷ l) v i =
       | inr q ↦ rw q (omega arith)
     ]
 
-checked_fine : (b at : ℕ) (run : Scan) → at < run.at → (b ≢ 48) ⊎ (run.at ≤ at + 1) → checked b at run ≡ Value run.value run.at
+checked_fine : (b at : ℕ) (run : ℕ × ℕ) → at < run.1 → (b ≢ 48) ⊎ (run.1 ≤ at + 1) → checked b at run ≡ Some run
 unfolding checked
-checked_fine b at run h (inl z) = rw (lt-leb run.at at h, ne_eqb b 48 z)
-checked_fine b at run h (inr k) = rw (lt-leb run.at at h, le-ltb (at + 1) run.at k, both_off (eqb b 48))
+checked_fine b at run h (inl z) = rw (lt-leb run.1 at h, ne_eqb b 48 z)
+checked_fine b at run h (inr k) = rw (lt-leb run.1 at h, le-ltb (at + 1) run.1 k, both_off (eqb b 48))
 
 -- where no number stands there is no digit, or a leading zero
-pub no_number_there : (s : List ℕ) (at : ℕ) → number_at s at ≡ Wrong → digit_b (get_or s at 0) ≡ true
+pub no_number_there : (s : List ℕ) (at : ℕ) → number_at s at ≡ None → digit_b (get_or s at 0) ≡ true
     → (get_or s at 0 ≡ 48) × (digit_b (get_or s (at + 1) 0) ≡ true)
 unfolding number_at
 no_number_there s at h d =
     elim (split (digit_b (get_or s (at + 1) 0))) [
-      | inr q ↦ fine (inr (omega (arith, ap (λ (x : Scan). x.at) (more ∙ last q))))
+      | inr q ↦ fine (inr (omega (arith, ap (λ (x : ℕ × ℕ). x.1) (more ∙ last q))))
       | inl p ↦ elim (ℕ_discrete (get_or s at 0) 48) [ yes z ↦ (z, p) | no z ↦ fine (inl z) ]
     ]
   where
     b : ℕ
     b = get_or s at 0
 
-    run : Scan
+    run : ℕ × ℕ
     run = scan_of (drop at s) 0 at
 
     inside : at < length s
@@ -189,14 +188,14 @@ no_number_there s at h d =
     more : run ≡ scan_of (drop (at + 1) s) (capped 0 b) (at + 1)
     more = scan_more s at 0 inside d
 
-    last : digit_b (get_or s (at + 1) 0) ≡ false → scan_of (drop (at + 1) s) (capped 0 b) (at + 1) ≡ stopped (capped 0 b) (at + 1)
+    last : digit_b (get_or s (at + 1) 0) ≡ false → scan_of (drop (at + 1) s) (capped 0 b) (at + 1) ≡ (capped 0 b, at + 1)
     last q =
         elim (dec_lt (at + 1) (length s)) [
           | yes l ↦ scan_none s (at + 1) (capped 0 b) l q
           | no g ↦ scan_end s (at + 1) (capped 0 b) (omega arith)
         ]
 
-    fine : {A : Type 0} → (b ≢ 48) ⊎ (run.at ≤ at + 1) → A
+    fine : {A : Type 0} → (b ≢ 48) ⊎ (run.1 ≤ at + 1) → A
     fine w =
-        let some : at < run.at = omega (arith, scan_on (drop (at + 1) s) (capped 0 b) (at + 1), ap (λ (x : Scan). x.at) more) in
-        no_number run.value run.at (sym h ∙ checked_fine b at run some w)
+        let some : at < run.1 = omega (arith, scan_on (drop (at + 1) s) (capped 0 b) (at + 1), ap (λ (x : ℕ × ℕ). x.1) more) in
+        no_number run.0 run.1 (sym h ∙ checked_fine b at run some w)

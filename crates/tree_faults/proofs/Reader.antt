@@ -1,4 +1,5 @@
 -- Where the reader refuses there is a fault, node by node. Assumes nothing.
+use Rattle.std.specs.Prelude.{Some, None}
 use Prim.Native.Nat.{◌+◌, ◌<◌, ◌≤◌, suc, zero, ℕ}
 use lib.Dec.{eqb}
 use lib.ListN.{drop, get_or, length, length-set, set}
@@ -11,16 +12,14 @@ use native.Mathlib.Omega.{arith}
 use Rattle.decimal.proofs.Cases.{first_of, in_text, rest}
 use Rattle.decimal.proofs.Numbers.{number_sound}
 use Rattle.decimal.specs.Exact.{NumberAt, Stands}
-use Rattle.decimal.specs.Number.{digit_b, number_at}
+use Rattle.decimal.specs.Number.{digit_b, number_at, Read, read}
 use Rattle.decimal.specs.Text.{decimal}
-use Rattle.decimal.specs.declared.Num.{Num}
-use Rattle.decimal.specs.declared.Num.TheVariants.{Value, Wrong}
 use Rattle.laws.proofs.Tests.{false_true, split}
 use Rattle.refusal.proofs.Table.{not_both}
 use Rattle.refusal.specs.declared.Refusal.{Refusal}
 use Rattle.refusal.specs.declared.Refusal.TheVariants.{NotAForm, UnknownNode}
-use Rattle.refusal.specs.declared.Verdict.{Verdict}
-use Rattle.refusal.specs.declared.Verdict.TheVariants.{Accepted, Refused}
+use Rattle.refusal.specs.Table.{Verdict}
+use Rattle.refusal.specs.Table.{Accepted, Refused}
 use Rattle.tree_faults.proofs.Nodes.{ListOf, list_of_lem, no_number_to, node_size, none_used, opened, used, used_most, used-set}
 use Rattle.tree_faults.proofs.Numbers.{first, no_number_there, same_number, some_digit, zero_only, zero_text}
 use Rattle.tree_faults.proofs.Places.{FaultAt, FaultTo, Large, ListText, NodeText, calm, in_list, in_node, in_rest, never, no_bracket, no_number, not_closed, number_refused, zero_led}
@@ -32,7 +31,7 @@ use Rattle.tree_text.proofs.Steps.{body_is, close_no, close_yes, enter_again, en
 use Rattle.tree_text.proofs.Taken.{NodeTaken, list_taken, taken}
 use Rattle.tree_text.specs.Read.{and_then, body_of, closed, entered, fresh, list_of, node_of, placed, refused, stepped}
 use Rattle.tree_text.specs.Text.{closing, opening, space}
-use Rattle.tree_text.specs.declared.Reading.{Reading}
+use Rattle.tree_text.specs.Read.{Reading}
 
 pub same_refusal : {v : Verdict} {e f : Refusal} → v ≡ Refused e → v ≡ Refused f → e ≡ f
 same_refusal p q = cc
@@ -61,7 +60,7 @@ module _ (s : List ℕ) (n : ℕ) (some : 0 < n) (n16 : n ≤ 16) where
             let z : k ≡ 0 = zero_only k F.more (F.text ∙ ap (λ (b : ℕ). b ∷ F.more) (p ∙ byte)) in
             no_place (omega arith) (ap (used e) (sym z) ∙ u)
 
-    wrong : number_at s (at + 1) ≡ Wrong → FaultAt s n at (NodeText e low) NotAForm
+    wrong : number_at s (at + 1) ≡ None → FaultAt s n at (NodeText e low) NotAForm
     wrong h =
         elim (split (digit_b (get_or s (at + 1) 0))) [
           | inr q ↦ (at + 1, no_number s n at e low places lows bracket (λ k o u p. false_true (sym (ap digit_b p ∙ q) ∙ (first k).digit)))
@@ -174,19 +173,19 @@ module _ (s : List ℕ) (n : ℕ) (some : 0 < n) (n16 : n ≤ 16) where
               ]
 
       -- its number is judged
-      numbered : get_or s r.at 0 ≡ opening → (num : Num) → number_at s (r.at + 1) ≡ num
+      numbered : get_or s r.at 0 ≡ opening → (num : Read ℕ) → number_at s (r.at + 1) ≡ num
           → (and_then (entered n r by low num) (body_of (list_of left s n) s)).verdict ≡ Refused f → Answer
-      numbered bracket Wrong is h =
+      numbered bracket None is h =
           subst (FaultAt s n r.at (NodeText r.engager low))
           (why NotAForm (ap (λ (x : Reading). and_then x (body_of (list_of left s n) s)) (enter_wrong n r by low) ∙ then_no _ _ NotAForm refl) refl h)
           (wrong r.at r.engager low places lows bracket is)
-      numbered bracket (Value k end) is h = by_value (number_sound s (r.at + 1) k end is)
+      numbered bracket (Some (k, end)) is h = by_value (number_sound s (r.at + 1) k end is)
         where
           go_on : Reading → Reading
           go_on = body_of (list_of left s n) s
 
           -- where the number is refused, so is the node
-          so : (e : Refusal) → entered n r by low (Value k end) ≡ refused r e → FaultAt s n r.at (NodeText r.engager low) e → Answer
+          so : (e : Refusal) → entered n r by low (read k end) ≡ refused r e → FaultAt s n r.at (NodeText r.engager low) e → Answer
           so e p =
               subst (FaultAt s n r.at (NodeText r.engager low))
               (why e (ap (λ (x : Reading). and_then x go_on) p ∙ then_no (refused r e) go_on e refl) refl h)
@@ -216,7 +215,7 @@ module _ (s : List ℕ) (n : ℕ) (some : 0 < n) (n16 : n ≤ 16) where
                   ]
                 where
                   entering : get_or r.engager k 16 ≡ 16 → low ≤ k
-                      → (and_then (entered n r by low (Value k end)) go_on).verdict
+                      → (and_then (entered n r by low (read k end)) go_on).verdict
                       ≡ (and_then (list_of left s n (placed r k by end) k 0) (closed s k)).verdict
                   entering entry o =
                       ap (λ (x : Reading). x.verdict)

@@ -9,8 +9,8 @@ use mathlib.Core.Path.{◌∙◌, ◌≡◌, ap, refl, subst, sym}
 use native.Mathlib.Decide.{dec_lt, map_dec, ℕ_discrete}
 use native.Mathlib.Omega.{arith}
 use Rattle.refusal.proofs.Table.{not_both}
-use Rattle.refusal.specs.declared.Verdict.{Verdict}
-use Rattle.refusal.specs.declared.Verdict.TheVariants.{Accepted}
+use Rattle.refusal.specs.Table.{Verdict}
+use Rattle.refusal.specs.Table.{Accepted}
 use Rattle.tree_faults.proofs.Numbers.{heads}
 use Rattle.tree_faults.specs.Theorems.{BeginsWritten}
 use Rattle.tree_text.proofs.Steps.{verdict_of}
@@ -18,7 +18,7 @@ use Rattle.tree_text.proofs.Theorems.{read_back, read_exact}
 use Rattle.tree_text.specs.Read.{read_of}
 use Rattle.tree_text.specs.Text.{text_of}
 use Rattle.tree_text.specs.Theorems.{EngagementTree}
-use Rattle.tree_text.specs.declared.Found.{Found}
+use Rattle.tree_text.specs.Read.{Found}
 
 -- ---- searches
 

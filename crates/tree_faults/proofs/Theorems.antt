@@ -18,7 +18,7 @@ use Rattle.decimal.specs.Text.{decimal}
 use Rattle.refusal.proofs.Table.{not_both}
 use Rattle.refusal.specs.declared.Refusal.{Refusal}
 use Rattle.refusal.specs.declared.Refusal.TheVariants.{NotAForm, UnknownNode}
-use Rattle.refusal.specs.declared.Verdict.TheVariants.{Accepted, Refused}
+use Rattle.refusal.specs.Table.{Accepted, Refused}
 use Rattle.tree_faults.proofs.Cuts.{Cut, cut_list, cut_node, inside}
 use Rattle.tree_faults.proofs.Nodes.{first_alike, list_below, list_of_lem, listed, no_digit, no_number_to, node_then, number_below, stands_from, used, used_most, used_none, used-set}
 use Rattle.tree_faults.proofs.Numbers.{longer, same_front, some_digit}
@@ -37,8 +37,8 @@ use Rattle.tree_text.proofs.Trees.{tree_lists}
 use Rattle.tree_text.specs.Read.{end_of, fresh, node_of, nothing, read_of}
 use Rattle.tree_text.specs.Text.{closing, opening, space, text_of}
 use Rattle.tree_text.specs.Theorems.{EngagementTree}
-use Rattle.tree_text.specs.declared.Found.{Found}
-use Rattle.tree_text.specs.declared.Reading.{Reading}
+use Rattle.tree_text.specs.Read.{Found}
+use Rattle.tree_text.specs.Read.{Reading}
 
 -- ---- a number in a beginning, and in the whole text
 

@@ -4,7 +4,7 @@ use Prim.Native.String.{String}
 use Rattle.decimal.specs.Bytes.{bytes}
 use Rattle.refusal.specs.Table.{number_of}
 use Rattle.refusal.specs.declared.Refusal.{Refusal}
-use Rattle.refusal.specs.declared.Verdict.TheVariants.{Refused}
+use Rattle.refusal.specs.Table.{Refused}
 use Rattle.tree_faults.specs.Theorems.{Fault, Near}
 use Rattle.tree_text.specs.Read.{read_of}
 

@@ -4,7 +4,7 @@ use Rattle.decimal.specs.Exact.{Stands}
 use Rattle.decimal.specs.Text.{decimal}
 use Rattle.refusal.specs.declared.Refusal.{Refusal}
 use Rattle.refusal.specs.declared.Refusal.TheVariants.{NotAForm, UnknownNode}
-use Rattle.refusal.specs.declared.Verdict.TheVariants.{Accepted, Refused}
+use Rattle.refusal.specs.Table.{Accepted, Refused}
 use Rattle.tree_faults.specs.Trees.{AllBelow, Nodes, TreeShape, node, none, tree_text}
 use Rattle.tree_text.specs.Read.{read_of}
 use Rattle.tree_text.specs.Text.{opening, space, text_of}

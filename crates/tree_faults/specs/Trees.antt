@@ -1,4 +1,4 @@
--- Trees whose numbers may be of any size, and their texts. Document 01, "Text of the tree".
+-- Trees whose numbers may be of any size, and their texts.
 use Rattle.std.specs.Prelude.{◌+◌, ◌<◌, ◌≤◌, ℕ, eqb, cond, List, [], ◌++◌, ◌∷◌}
 use Rattle.decimal.specs.Text.{decimal}
 use Rattle.tree_text.specs.Text.{closing, opening, space}

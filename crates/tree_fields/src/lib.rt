@@ -1,73 +1,111 @@
-// The fields of a tree as other languages lend them: whether the bytes of truths are 0 or 1, the tree that lies in them, and a tree put into them.
+// A tree as other languages lend it: its fields, with a byte for each truth.
 #![tactic(auto)]
 
-ghost use Rattle.std.specs.Prelude.{◌≡◌, ◌&&◌};
-ghost use Rattle.flag_bytes.specs.Flags.{are_flags, is_flag};
-ghost use Rattle.lent.specs.Tree.{lent_tree, lent_tree_of, tree_of};
-ghost use Rattle.tree.specs.View.{state};
+ghost use Rattle.std.specs.Prelude.{◌≡◌};
+ghost use Rattle.lent.specs.Tree.{TreeSteppedTo, tree_truths_test};
+ghost use Rattle.refusal.specs.Answers.{verdict_from};
+ghost use Rattle.refusal.specs.Table.{code_of};
+ghost use Rattle.tree_fields.specs.Fields.{found_sound, tree_in};
 
-use refusal::{TREE_NODES, TREE_PAIRS};
+use refusal::{Refusal, TREE_NODES, TREE_PAIRS};
+use std::marker::Model;
 use tree::Tree;
 
-// Are the bytes of a lent tree's truths each 0 or 1?
-pub fn are_flags(active: [u8; TREE_NODES], closed: u8) -> bool
-    ensures { result ≡ (are_flags active && is_flag closed) }
-{
-    let column = flag_bytes::are_flags(&active);
-    column & (closed <= 1)
+/// The fields of a tree, as `Tree` has them, with a byte for each truth: 1 for true, 0 for false. A byte above 1 makes a tree that is not sound.
+#[derive(Clone, Copy, Debug, PartialEq, Eq)]
+pub struct LentTree {
+    pub n: usize,
+    pub root: usize,
+    pub active: [u8; TREE_NODES],
+    pub engager: [u8; TREE_NODES],
+    pub unacked: [u32; TREE_NODES],
+    pub transit: [u32; TREE_PAIRS],
+    pub acks: [u32; TREE_NODES],
+    pub sends: u32,
+    pub closed: u8,
 }
 
-// The tree that lies in lent fields.
-pub fn gathered(
-    n: usize,
-    root: usize,
-    active: [u8; TREE_NODES],
-    engager: [u8; TREE_NODES],
-    unacked: [u32; TREE_NODES],
-    transit: [u32; TREE_PAIRS],
-    acks: [u32; TREE_NODES],
-    sends: u32,
-    closed: u8,
-) -> Tree
-    ensures { state result ≡ tree_of (lent_tree n root active engager unacked transit acks sends closed) }
-{
-    let flags = flag_bytes::tree_flags(active);
-    Tree {
-        n,
-        root,
-        active: flags,
-        engager,
-        unacked,
-        transit,
-        acks,
-        sends,
-        closed: closed == 1,
+impl Model for LentTree {
+    ghost use Rattle.lent.specs.Tree.{LentTree as Lent};
+
+    ghost Value = { Lent };
+
+    ghost view = { λ a. record { n = a.n; root = a.root; active = a.active; engager = a.engager; unacked = a.unacked; transit = a.transit; acks = a.acks; sends = a.sends; closed = a.closed } };
+
+    ghost inverse = { λ d. record { n = d.n; root = d.root; active = d.active; engager = d.engager; unacked = d.unacked; transit = d.transit; acks = d.acks; sends = d.sends; closed = d.closed } };
+}
+
+impl From<Tree> for LentTree {
+    ghost use Rattle.tree_fields.specs.Fields.{IsLentOf};
+
+    ghost from_gives = { IsLentOf };
+
+    fn from(tree: Tree) -> LentTree {
+        LentTree {
+            n: tree.n,
+            root: tree.root,
+            active: flag_bytes::bytes_of(&tree.active),
+            engager: tree.engager,
+            unacked: tree.unacked,
+            transit: tree.transit,
+            acks: tree.acks,
+            sends: tree.sends,
+            closed: u8::from(tree.closed),
+        }
     }
 }
 
-// The tree put into the lent fields, all but the number of nodes and the root.
-pub fn scatter(
-    tree: Tree,
-    active: &mut [u8; TREE_NODES],
-    engager: &mut [u8; TREE_NODES],
-    unacked: &mut [u32; TREE_NODES],
-    transit: &mut [u32; TREE_PAIRS],
-    acks: &mut [u32; TREE_NODES],
-    sends: &mut u32,
-    closed: &mut u8,
-)
-    ensures { lent_tree tree.n tree.root active.new engager.new unacked.new transit.new acks.new sends.new closed.new ≡ lent_tree_of (state tree) }
-{
-    let active_now = tree.active;
-    *active = flag_bytes::tree_bytes(active_now);
-    let engager_now = tree.engager;
-    *engager = engager_now;
-    let unacked_now = tree.unacked;
-    *unacked = unacked_now;
-    let transit_now = tree.transit;
-    *transit = transit_now;
-    let acks_now = tree.acks;
-    *acks = acks_now;
-    *sends = tree.sends;
-    *closed = flag_bytes::byte(tree.closed);
+impl LentTree {
+    // Is each byte of a truth 0 or 1?
+    #[tactic(auto, unfolding(lent::specs::Tree::tree_truths_test))]
+    fn has_truths(&self) -> bool
+        ensures { result ≡ tree_truths_test self.now }
+    {
+        flag_bytes::are_flags(&self.active) && self.closed <= 1
+    }
+
+    /// The tree that lies in the fields. A byte of a truth that is above 1 is refused with 3.
+    pub fn tree(&self) -> Result<Tree, Refusal>
+        ensures { result ≡ tree_in self.now }
+    {
+        if !self.has_truths() {
+            return Err(Refusal::Unsound);
+        }
+        Ok(Tree {
+            n: self.n,
+            root: self.root,
+            active: flag_bytes::truths(&self.active),
+            engager: self.engager,
+            unacked: self.unacked,
+            transit: self.transit,
+            acks: self.acks,
+            sends: self.sends,
+            closed: self.closed == 1,
+        })
+    }
+
+    /// Is each byte of a truth 0 or 1, and the tree sound?
+    pub fn is_sound(&self) -> bool
+        ensures { result ≡ found_sound self.now }
+    {
+        match self.tree() {
+            Ok(tree) => tree.is_sound(),
+            Err(_) => false,
+        }
+    }
+
+    /// A step by its kind number, 1 to 6, in place; whatever is refused leaves the fields as they were.
+    pub fn step(&mut self, kind: usize, i: usize, j: usize) -> Result<(), Refusal>
+        ensures told { TreeSteppedTo self.old kind i j (code_of (verdict_from result)) self.new }
+        ensures nodes { self.new.n ≡ self.old.n }
+        ensures root { self.new.root ≡ self.old.root }
+    {
+        match self.tree()?.step(flag_bytes::kind_byte(kind), i, j) {
+            Ok(next) => {
+                *self = LentTree::from(next);
+                Ok(())
+            }
+            Err(refused) => Err(refused.refusal),
+        }
+    }
 }

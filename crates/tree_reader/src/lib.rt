@@ -1,204 +1,131 @@
 // The reader of the text of the engagement tree: the first fault from the left decides.
 #![tactic(auto)]
 
-ghost use Rattle.std.specs.Prelude.{◌≡◌, cond, ◌+◌, ◌≤◌, ◌<◌, eqb};
-ghost use Rattle.tree_text.specs.Read.{refused, stepped, placed, entered, closed, list_of, node_of, nothing, end_of, read_of};
+ghost use Rattle.std.specs.Prelude.{◌≡◌, ◌≤◌, ◌<◌, IfSome, IfOk};
+ghost use Rattle.tree_text.specs.Read.{entered, closed, list_of, node_of, read_of};
+ghost use Rattle.tree_text.specs.View.{found};
+ghost use Rattle.tree_reader.specs.View.{going, told, engager_number};
 
-use decimal::Num;
-use refusal::{Refusal, TREE_NODES, Verdict};
-use tree_rules::{NO_ENGAGER, NO_NODE};
-use tree_text::{Found, Reading};
+use refusal::{Refusal, TREE_NODES};
+use tree_rules::NO_ENGAGER;
+use tree_text::Found;
 
-// The reading with a fault.
-fn refuse(r: Reading, e: Refusal) -> Reading
-    ensures { result ≡ refused r e }
-{
-    let engager = r.engager;
-    Reading {
-        verdict: Verdict::Refused(e),
-        engager,
-        at: r.at,
-        node: r.node,
-    }
+// A reading under way: the engagers so far, the index of the next byte, and the node entered or closed last.
+#[derive(Clone, Copy, Debug, PartialEq, Eq)]
+struct Reading {
+    engager: [u8; TREE_NODES],
+    at: usize,
+    node: usize,
 }
 
-// One byte further.
-fn step(r: Reading) -> Reading
-    requires { r.at + 1 < 18446744073709551616 }
-    ensures { result ≡ stepped r }
+// A number that was read, and the index past it, as a node that comes into the tree: if there is such a node, it stands in order and is not in
+// the tree yet. The outermost node, which has no engager, is its own.
+#[tactic(auto, unfolding(tree_text::specs::Read::entered))]
+fn enter(
+    n: usize,
+    mut r: Reading,
+    engager: Option<usize>,
+    low: usize,
+    number: Option<(usize, usize)>,
+) -> Result<Reading, Refusal>
+    requires { (n ≤ 16) × IfSome engager (λ k. k < 16) }
+    ensures told { result ≡ told (entered n (going r) (engager_number engager) low number) }
+    ensures below { IfOk result (λ m. m.node < n) }
 {
-    let verdict = r.verdict;
-    let engager = r.engager;
-    Reading {
-        verdict,
-        engager,
-        at: r.at + 1,
-        node: r.node,
+    let (node, at) = number.ok_or(Refusal::NotAForm)?;
+    if n <= node {
+        return Err(Refusal::UnknownNode);
     }
+    if node < low || r.engager[node] != NO_ENGAGER {
+        return Err(Refusal::NotAForm);
+    }
+    r.engager[node] = engager.unwrap_or(node) as u8;
+    r.at = at;
+    r.node = node;
+    Ok(r)
 }
 
-// The engager of node k: the outermost node, whose engager is told as 16, has itself.
-fn engager_of(k: usize, by: usize) -> usize
-    requires { (k < 16) × (by ≤ 16) }
-    ensures { (result ≡ cond (eqb by 16) k by) × (result < 16) }
+// The bracket that closes a node.
+#[tactic(auto, unfolding(tree_text::specs::Read::closed))]
+fn close(s: &[u8], node: usize, mut r: Reading) -> Result<Reading, Refusal>
+    ensures told { result ≡ told (closed s.now node (going r)) }
+    ensures same { IfOk result (λ m. m.node ≡ node) }
 {
-    if by == NO_NODE { k } else { by }
+    if decimal::byte_at(s, r.at) != b')' {
+        return Err(Refusal::NotAForm);
+    }
+    r.at += 1;
+    r.node = node;
+    Ok(r)
 }
 
-// Node k comes into the tree.
-fn place(r: Reading, k: usize, by: usize, at: usize) -> Reading
-    requires { (k < 16) × (by ≤ 16) }
-    ensures { result ≡ placed r k by at }
-{
-    let mut engager = r.engager;
-    engager[k] = engager_of(k, by) as u8;
-    Reading {
-        verdict: Verdict::Accepted,
-        engager,
-        at,
-        node: k,
-    }
-}
-
-// Node k, if there is such a node, it stands in order and is not in the tree yet.
-fn judge(n: usize, r: Reading, by: usize, low: usize, k: usize, at: usize) -> Reading
-    requires { (n ≤ 16) × (by ≤ 16) }
-    ensures { result ≡ entered n r by low (Num.Value k at) }
-{
-    if n <= k {
-        return refuse(r, Refusal::UnknownNode);
-    }
-    if k < low {
-        return refuse(r, Refusal::NotAForm);
-    }
-    let engager = r.engager;
-    if engager[k] != NO_ENGAGER {
-        return refuse(r, Refusal::NotAForm);
-    }
-    place(r, k, by, at)
-}
-
-// A number that was read, as a node.
-fn enter(n: usize, r: Reading, by: usize, low: usize, num: Num) -> Reading
-    requires { (n ≤ 16) × (by ≤ 16) }
-    ensures { result ≡ entered n r by low num }
-{
-    match num {
-        Num::Value(k, at) => judge(n, r, by, low, k, at),
-        Num::Wrong => refuse(r, Refusal::NotAForm),
-    }
-}
-
-// The bracket that closes node k.
-fn close(s: &[u8], k: usize, m: Reading) -> Reading
-    ensures { result ≡ closed s.now k m }
-{
-    let at = m.at;
-    if decimal::byte_at(s, at) != b')' {
-        return refuse(m, Refusal::NotAForm);
-    }
-    let engager = m.engager;
-    Reading {
-        verdict: Verdict::Accepted,
-        engager,
-        at: at + 1,
-        node: k,
-    }
-}
-
-// A node with the engager `by`, no lower than `low`.
+// A node with this engager, no lower than `low`. `left` bounds the depth.
+// Kept: the readers of a node and of a list call each other, as the text is built of nodes and lists (a named form of the project).
 #[cycle(read_list_read_node)]
-fn read_node(s: &[u8], n: usize, r: Reading, by: usize, low: usize, left: usize) -> Reading
-    requires { (n ≤ 16) × (by ≤ 16) }
-    ensures { result ≡ node_of left s.now n r by low }
+fn read_node(
+    s: &[u8],
+    n: usize,
+    r: Reading,
+    engager: Option<usize>,
+    low: usize,
+    left: usize,
+) -> Result<Reading, Refusal>
+    requires { (n ≤ 16) × IfSome engager (λ k. k < 16) }
+    ensures told { result ≡ told (node_of left s.now n (going r) (engager_number engager) low) }
+    ensures below { IfOk result (λ m. m.node < n) }
 {
-    let at = r.at;
-    if decimal::byte_at(s, at) != b'(' {
-        return refuse(r, Refusal::NotAForm);
+    if decimal::byte_at(s, r.at) != b'(' {
+        return Err(Refusal::NotAForm);
     }
-    let m = enter(n, r, by, low, decimal::number(s, at + 1));
-    let v = m.verdict;
-    let Verdict::Accepted = v else {
-        return m;
-    };
-    let k = m.node;
-    let list = read_list(s, n, m, k, 0, left);
-    let w = list.verdict;
-    let Verdict::Accepted = w else {
-        return list;
-    };
-    close(s, k, list)
+    let entered = enter(n, r, engager, low, decimal::number(s, r.at + 1))?;
+    let list = read_list(s, n, entered, entered.node, 0, left)?;
+    close(s, entered.node, list)
 }
 
-// The children of node k from `low` on.
+// The children of a node from `low` on.
 #[cycle(read_list_read_node)]
-fn read_list(s: &[u8], n: usize, r: Reading, k: usize, low: usize, left: usize) -> Reading
-    requires { (n ≤ 16) × (k < 16) }
-    ensures { result ≡ list_of left s.now n r k low }
+fn read_list(
+    s: &[u8],
+    n: usize,
+    mut r: Reading,
+    node: usize,
+    low: usize,
+    left: usize,
+) -> Result<Reading, Refusal>
+    requires { (n ≤ 16) × (node < 16) }
+    ensures { result ≡ told (list_of left s.now n (going r) node low) }
 {
     if left == 0 {
-        return refuse(r, Refusal::NotAForm);
+        return Err(Refusal::NotAForm);
     }
-    let at = r.at;
-    if decimal::byte_at(s, at) != b' ' {
-        return r;
+    if decimal::byte_at(s, r.at) != b' ' {
+        return Ok(r);
     }
-    let m = read_node(s, n, step(r), k, low, left - 1);
-    let v = m.verdict;
-    let Verdict::Accepted = v else {
-        return m;
-    };
-    let next = m.node + 1;
-    read_list(s, n, m, k, next, left - 1)
+    r.at += 1;
+    let child = read_node(s, n, r, Some(node), low, left - 1)?;
+    read_list(s, n, child, node, child.node + 1, left - 1)
 }
 
-// Nothing is given where the text is refused.
-fn none(e: Refusal) -> Found
-    ensures { result ≡ nothing e }
+/// The engagers and the root that a text of at most n nodes gives. A number of nodes outside 1 to 16 is refused first, with 1.
+#[tactic(auto, unfolding(tree_text::specs::Read::read_of))]
+pub fn read(n: usize, s: &[u8]) -> Result<Found, Refusal>
+    ensures { found result ≡ read_of n s.now }
 {
-    Found {
-        verdict: Verdict::Refused(e),
-        engager: [NO_ENGAGER; TREE_NODES],
-        root: NO_NODE,
+    if n == 0 || TREE_NODES < n {
+        return Err(Refusal::NodeCount);
     }
-}
-
-// The text must end with its last bracket.
-fn end(s: &[u8], m: Reading) -> Found
-    ensures { result ≡ end_of s.now m }
-{
-    let verdict = m.verdict;
-    match verdict {
-        Verdict::Accepted => {
-            if m.at == s.len() {
-                let engager = m.engager;
-                return Found {
-                    verdict,
-                    engager,
-                    root: m.node,
-                };
-            }
-            none(Refusal::NotAForm)
-        }
-        Verdict::Refused(e) => none(e),
-    }
-}
-
-// The engagers and the root that a text of at most n nodes gives.
-pub fn read(n: usize, s: &[u8]) -> Found
-    ensures { result ≡ read_of n s.now }
-{
-    if n == 0 {
-        return none(Refusal::NodeCount);
-    }
-    if TREE_NODES < n {
-        return none(Refusal::NodeCount);
-    }
-    let r = Reading {
-        verdict: Verdict::Accepted,
+    let fresh = Reading {
         engager: [NO_ENGAGER; TREE_NODES],
         at: 0,
         node: 0,
     };
-    end(s, read_node(s, n, r, NO_NODE, 0, TREE_NODES))
+    let tree = read_node(s, n, fresh, None, 0, TREE_NODES)?;
+    if tree.at != s.len() {
+        return Err(Refusal::NotAForm);
+    }
+    let engager = tree.engager;
+    Ok(Found {
+        engager,
+        root: tree.node,
+    })
 }

@@ -7,7 +7,7 @@ use mathlib.Core.Path.{◌≡◌, ap, refl, sym}
 use Rattle.laws.proofs.Tests.{both, both_true, false_true, neither, not_eq}
 use Rattle.refusal.proofs.Table.{accepts, none_holds}
 use Rattle.refusal.specs.Table.{NoneHolds, also, none, send_limit}
-use Rattle.refusal.specs.declared.Verdict.TheVariants.{Accepted}
+use Rattle.refusal.specs.Table.{Accepted}
 use Rattle.tree_rules.proofs.Facts.{engaged-true, true-engaged}
 use Rattle.tree_rules.proofs.Soundness.{sound_true, true_sound}
 use Rattle.tree_rules.specs.Answers.{outside, sends_spent, step_table, unknown, verdict_of}

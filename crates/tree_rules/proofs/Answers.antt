@@ -5,8 +5,8 @@ use mathlib.Core.Path.{◌≡◌, ap, refl, sym}
 use Rattle.refusal.specs.Table.{first_of, settle, step_rows}
 use Rattle.refusal.specs.declared.Refusal.{Refusal}
 use Rattle.refusal.specs.declared.Refusal.TheVariants.{Closed, RuleFails, SendLimit, UnknownKind, UnknownNode, Unsound}
-use Rattle.refusal.specs.declared.Verdict.{Verdict}
-use Rattle.refusal.specs.declared.Verdict.TheVariants.{Accepted, Refused}
+use Rattle.refusal.specs.Table.{Verdict}
+use Rattle.refusal.specs.Table.{Accepted, Refused}
 use Rattle.tree_rules.proofs.Soundness.{true_sound}
 use Rattle.tree_rules.specs.Answers.{Answer, answer_of, outside, sends_spent, unknown, verdict_of}
 use Rattle.tree_rules.specs.Rules.{Kind, effect, guard}

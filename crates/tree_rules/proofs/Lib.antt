@@ -12,3 +12,4 @@ pub mod Quiet
 pub mod Start
 pub mod Fields
 pub mod Theorems
+pub mod Kept

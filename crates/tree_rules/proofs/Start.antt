@@ -14,7 +14,7 @@ use Rattle.laws.proofs.Tests.{both, both_true, false_true, split}
 use Rattle.refusal.proofs.Table.{accepts, none_holds}
 use Rattle.refusal.specs.Table.{NoneHolds, also, none}
 use Rattle.refusal.specs.declared.Refusal.TheVariants.{NodeCount, UnknownNode}
-use Rattle.refusal.specs.declared.Verdict.TheVariants.{Accepted, Refused}
+use Rattle.refusal.specs.Table.{Accepted, Refused}
 use Rattle.tree_rules.proofs.Chains.{climb_any}
 use Rattle.tree_rules.proofs.Facts.{Facts, sound}
 use Rattle.tree_rules.proofs.Soundness.{sound_true}

@@ -10,8 +10,8 @@ use Rattle.refusal.proofs.Table.{accepts, first_row, none_holds, numbered, other
 use Rattle.refusal.proofs.Theorems.{count_refused, count_told}
 use Rattle.refusal.specs.Counts.{count_of}
 use Rattle.refusal.specs.Table.{settle}
-use Rattle.refusal.specs.declared.Verdict.{Verdict}
-use Rattle.refusal.specs.declared.Verdict.TheVariants.{Accepted, Refused}
+use Rattle.refusal.specs.Table.{Verdict}
+use Rattle.refusal.specs.Table.{Accepted, Refused}
 use Rattle.tree_rules.proofs.Accepted.{Allowed, Rule, accepted, allowed, announces, sends, takes}
 use Rattle.tree_rules.proofs.Facts.{facts, in_acks, in_range_lem, in_transit, sender_engaged, take_replies, true-engaged}
 use Rattle.tree_rules.proofs.Keeps.{keeps}

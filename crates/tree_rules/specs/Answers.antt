@@ -1,9 +1,9 @@
--- Document 01, "Where a request is turned back": the verdict on a step and its answer, for every state and all numbers.
+-- The verdict on a step and its answer, for every state and all numbers.
 use Rattle.std.specs.Prelude.{ℕ, leb, Bool, ◌||◌, false, true, List}
-use Rattle.refusal.specs.Counts.{count_of}
+use Rattle.refusal.specs.Answers as answers
+use Rattle.refusal.specs.Counts.{Count, count_of}
 use Rattle.refusal.specs.Table.{Row, first_of, send_limit, settle, step_rows}
-use Rattle.refusal.specs.declared.Count.{Count}
-use Rattle.refusal.specs.declared.Verdict.{Verdict}
+use Rattle.refusal.specs.Table.{Verdict}
 use Rattle.tree_rules.specs.Rules.{Ack, Announce, Idle, Kind, Leave, Send, Take, Unknown, effect, guard, kind_of}
 use Rattle.tree_rules.specs.Soundness.{sound_test}
 use Rattle.tree_rules.specs.State.{State}
@@ -46,9 +46,8 @@ step_table t k i j =
 unfoldable pub verdict_of : State → Kind → ℕ → ℕ → Verdict
 verdict_of t k i j = first_of (step_table t k i j)
 
-pub record Answer : Type 0 where
-  pub verdict : Verdict
-  pub state : State
+abbrev pub Answer : Type 0
+Answer = answers.Answer State
 
 -- the answer of a step: the next state where it is accepted, and else the very state handed in
 unfoldable pub answer_of : State → Kind → ℕ → ℕ → Answer

@@ -5,3 +5,4 @@ pub mod Answers
 pub mod Start
 pub mod Termination
 pub mod Theorems
+pub mod Request

@@ -1,4 +1,4 @@
--- Document 01, "The tree": the six steps, each one's condition and effect.
+-- The six steps of the tree of Dijkstra and Scholten, each one's condition and effect.
 use Rattle.std.specs.Prelude.{◌*◌, ◌+◌, ◌-◌, ℕ, eqb, ltb, set, Bool, ◌&&◌, cond, false, not, true}
 use Rattle.tree_rules.specs.State.{State, acks_at, active_at, engaged, engager_at, transit_at, unacked_at}
 

@@ -1,4 +1,4 @@
--- Document 01, "Sound": as facts, and as the test that code computes.
+-- Soundness, which every state has that a start and steps lead to: as facts, and as the test that code computes.
 use Rattle.std.specs.Prelude.{◌+◌, ◌<◌, ◌≤◌, ℕ, eqb, leb, ltb, length, Bool, ◌&&◌, ◌||◌, false, not, true, ◌⊎◌, ◌≡◌}
 use Rattle.laws.specs.Places.{all_to}
 use Rattle.laws.specs.Sums.{sum_to}

@@ -1,8 +1,8 @@
--- Document 01, "At start only the root is active and engaged".
+-- A start: only the root is active and engaged.
 use Rattle.std.specs.Prelude.{ℕ, leb, ltb, replicate, set, ◌&&◌, false, not, true, List, [], ◌∷◌}
 use Rattle.refusal.specs.Table.{Row, ◌⟶◌, first_of, settle}
 use Rattle.refusal.specs.declared.Refusal.TheVariants.{NodeCount, UnknownNode}
-use Rattle.refusal.specs.declared.Verdict.{Verdict}
+use Rattle.refusal.specs.Table.{Verdict}
 use Rattle.tree_rules.specs.Answers.{Answer}
 use Rattle.tree_rules.specs.State.{State}
 

@@ -1,4 +1,4 @@
--- Document 01, "The tree": the state, and what it says of node i.
+-- The state of a tree, and what it says of node i.
 use Rattle.std.specs.Prelude.{◌*◌, ◌+◌, suc, zero, ℕ, eqb, get_or, Bool, ◌&&◌, false, not, List}
 use Rattle.laws.specs.Sums.{count_to, sum_to}
 

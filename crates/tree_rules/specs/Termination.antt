@@ -1,4 +1,4 @@
--- A terminated tree (document 01's quiet), and the acknowledgements and leavings that are left until the announcement.
+-- A terminated tree, here called quiet, and the acknowledgements and leavings that are left until the announcement.
 use Rattle.std.specs.Prelude.{◌*◌, ◌+◌, ◌<◌, ℕ, eqb, Bool, ◌&&◌, false, not, ◌≡◌}
 use Rattle.laws.specs.Sums.{count_to, sum_to}
 use Rattle.tree_rules.specs.Rules.{Ack, Kind, Leave}
@@ -9,11 +9,11 @@ pub record Quiet (t : State) : Type 0 where
   pub passive : (i : ℕ) → i < t.n → active_at t i ≡ false
   pub empty : (i k : ℕ) → i < t.n → k < t.n → transit_at t i k ≡ 0
 
--- demand 3's A: acknowledgements under way
+-- A: acknowledgements under way
 unfoldable pub acks_total : State → ℕ
 acks_total t = sum_to 16 (acks_at t)
 
--- demand 3's E: engaged nodes besides the root
+-- E: engaged nodes besides the root
 abbrev pub is_other : State → ℕ → Bool
 is_other t i = not (eqb i t.root) && engaged t i
 

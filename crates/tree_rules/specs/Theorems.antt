@@ -1,9 +1,9 @@
 -- What is proved of the definitions; the proofs are in proofs/, put together in proofs/Theorems.antt.
 use Rattle.std.specs.Prelude.{◌+◌, ◌<◌, ℕ, false, true, ◌↔◌, ◌≢◌, ◌⊎◌, ◌≡◌}
 use Rattle.refusal.specs.Table.{FirstIs, NoneHolds, Numbered, Row, code_of, send_limit}
-use Rattle.refusal.specs.declared.Count.{Count}
+use Rattle.refusal.specs.Counts.{Count}
 use Rattle.refusal.specs.declared.Refusal.{Refusal}
-use Rattle.refusal.specs.declared.Verdict.TheVariants.{Accepted, Refused}
+use Rattle.refusal.specs.Table.{Accepted, Refused}
 use Rattle.tree_rules.specs.Answers.{acks_answer, answer_of, step_of, step_table, verdict_of}
 use Rattle.tree_rules.specs.Rules.{Ack, Announce, Idle, Kind, Leave, Send, Take, Unknown, effect}
 use Rattle.tree_rules.specs.Soundness.{Open, Sound, sound_test}
@@ -16,7 +16,7 @@ pub record SoundTested : Type 0 where
   pub holds : (t : State) → sound_test t ≡ true → Sound t
   pub tested : (t : State) → Sound t → sound_test t ≡ true
 
--- Demand 1 for a step of any state, kind and numbers: it is accepted exactly where no row of the table applies, and then gives the
+-- A step of any state, kind and numbers is accepted exactly where no row of the table applies, and then gives the
 -- next state; a refusal is that of the first row that applies, and hands back the very state. The answer's number is the table's.
 pub record StepAnswered : Type 0 where
   pub number : (t : State) (k : Kind) (i j : ℕ) → Numbered (step_table t k i j) (code_of (answer_of t k i j).verdict)
@@ -27,7 +27,7 @@ pub record StepAnswered : Type 0 where
       → (row : Row) × (row.refusal ≡ e) × FirstIs (step_table t k i j) row
   pub same : (t : State) (k : Kind) (i j : ℕ) (e : Refusal) → verdict_of t k i j ≡ Refused e → (answer_of t k i j).state ≡ t
 
--- Demand 1 for a start: the same, with a blank that is not sound where it is refused.
+-- A start: the same, with a blank that is not sound where it is refused.
 pub record StartAnswered : Type 0 where
   pub number : (n root : ℕ) → Numbered (start_table n root) (code_of (start_of n root).verdict)
   pub accepted : (n root : ℕ) → (start_verdict n root ≡ Accepted) ↔ NoneHolds (start_table n root)
@@ -37,7 +37,7 @@ pub record StartAnswered : Type 0 where
       → (row : Row) × (row.refusal ≡ e) × FirstIs (start_table n root) row
   pub none : (n root : ℕ) (e : Refusal) → start_verdict n root ≡ Refused e → sound_test (start_of n root).state ≡ false
 
--- Document 01, "any state handed in, 3, not sound", where a number is asked of a state: it is told of a sound one, and 3 of every other.
+-- A number asked of a state is told of a sound one, and 3 of every other.
 pub record Tells (answer : State → Count) (number : State → ℕ) : Type 0 where
   pub sound : (t : State) → Sound t → (code_of (answer t).verdict ≡ 0) × ((answer t).number ≡ number t)
   pub other : (t : State) → (Sound t → ⊥) → code_of (answer t).verdict ≡ 3
@@ -45,7 +45,7 @@ pub record Tells (answer : State → Count) (number : State → ℕ) : Type 0 wh
 pub record CountsTold : Type 0 where
   pub acks : Tells acks_answer acks_total
 
--- Document 01: "Every start and accepted step gives a sound state." So does every refused step of a sound state.
+-- Every start and accepted step gives a sound state. So does every refused step of a sound state.
 pub record SoundKept : Type 0 where
   pub start : (n root : ℕ) → start_verdict n root ≡ Accepted → Open (start_of n root).state
   pub step : (t : State) (k : Kind) (i j : ℕ) → verdict_of t k i j ≡ Accepted → Sound (answer_of t k i j).state
@@ -64,7 +64,7 @@ pub record Sending (t : State) (i j : ℕ) : Type 0 where
   pub receiver : j < t.n
   pub active : active_at t i ≡ true
 
--- Document 01: "Sends below the limit meet 9 never; takes never meet it." The limit is 1,000,000 sends.
+-- Sends below the limit, 1,000,000 of a run, never meet 9; takes never meet it.
 pub record LimitMet : Type 0 where
   -- what meets 9 is a send, and exactly so many are made
   pub only : (t : State) (k : Kind) (i j : ℕ) → code_of (answer_of t k i j).verdict ≡ 9 → (k ≡ Send) × (t.sends ≡ send_limit)
@@ -85,15 +85,15 @@ pub record OwnTaken (t : State) (i : ℕ) (s : State) : Type 0 where
   pub other_acks : (k : ℕ) → k ≢ i → acks_at s k ≡ acks_at t k
   pub rest : (s.n ≡ t.n) × (s.root ≡ t.root) × (s.sends ≡ t.sends) × (s.closed ≡ t.closed)
 
--- Document 02, Q-4, of the tree. (Of the ring, where a message to oneself is a case of nothing, `LimitMet.below` says that it may be sent.)
+-- Messages to oneself, of the tree. (Of the ring, where a message to oneself is a case of nothing, `LimitMet.below` says that it may be sent.)
 pub record OwnMessages : Type 0 where
-  -- "a sound tree may hold such jobs"
+  -- a sound tree may hold such messages
   pub held :
       (t : State) → Open t → (i : ℕ) → i < t.n → active_at t i ≡ true → t.sends < send_limit
       → (verdict_of t Send i i ≡ Accepted) × Sound (answer_of t Send i i).state × (transit_at (answer_of t Send i i).state i i ≡ transit_at t i i + 1)
-  -- "a board taking its own job is already engaged": whoever has a message in transit is, its receiver being any node, itself too
+  -- a node taking its own message is already engaged: whoever has a message in transit is, its receiver being any node, itself too
   pub engaged : (t : State) → Sound t → (i k : ℕ) → i < t.n → k < t.n → 0 < transit_at t i k → engaged t i ≡ true
-  -- "and acknowledges itself"
+  -- and acknowledges itself
   pub taken :
       (t : State) → Open t → (i : ℕ) → i < t.n → 0 < transit_at t i i
       → (verdict_of t Take i i ≡ Accepted) × OwnTaken t i (answer_of t Take i i).state

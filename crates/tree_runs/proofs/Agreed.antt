@@ -9,8 +9,8 @@ use native.Mathlib.Omega.{arith}
 use Rattle.laws.proofs.Tests.{false_true, split}
 use Rattle.refusal.specs.Table.{send_limit, settle}
 use Rattle.refusal.specs.declared.Refusal.TheVariants.{SendLimit}
-use Rattle.refusal.specs.declared.Verdict.{Verdict}
-use Rattle.refusal.specs.declared.Verdict.TheVariants.{Accepted, Refused}
+use Rattle.refusal.specs.Table.{Verdict}
+use Rattle.refusal.specs.Table.{Accepted, Refused}
 use Rattle.tree_rules.proofs.Accepted.{Conclusion, accepted, allowed, conclusive-true}
 use Rattle.tree_rules.proofs.Answers.{limit_answer}
 use Rattle.tree_rules.proofs.Facts.{facts}

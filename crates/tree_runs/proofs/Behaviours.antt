@@ -6,7 +6,7 @@ use mathlib.Core.Path.{◌∙◌, ◌≡◌, ap, refl, subst, sym}
 use native.Mathlib.Bridge.{le_prop}
 use native.Mathlib.Omega.{arith}
 use Rattle.refusal.specs.Table.{send_limit, settle}
-use Rattle.refusal.specs.declared.Verdict.{Verdict}
+use Rattle.refusal.specs.Table.{Verdict}
 use Rattle.runs.proofs.Runs.{Run, accepted_append, kept, run_append, run_of_lem, stop, took}
 use Rattle.runs.specs.Runs.{Accepts, Request, accepted_of, next, run_of}
 use Rattle.tree_rules.proofs.Accepted.{Rule, accepted}

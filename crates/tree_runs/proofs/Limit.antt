@@ -6,7 +6,7 @@ use mathlib.Core.Logic.{◌↔◌}
 use mathlib.Core.Path.{◌∙◌, ◌≡◌, ap, subst, sym}
 use native.Mathlib.Omega.{arith}
 use Rattle.refusal.specs.Table.{code_of, send_limit}
-use Rattle.refusal.specs.declared.Verdict.TheVariants.{Accepted}
+use Rattle.refusal.specs.Table.{Accepted}
 use Rattle.runs.specs.Runs.{Request, accepted_of, run_of}
 use Rattle.tree_rules.proofs.Theorems.{limit_met, sound_kept, start_answered}
 use Rattle.tree_rules.specs.Answers.{answer_of, verdict_of}

@@ -8,7 +8,7 @@ use mathlib.Core.Path.{◌∙◌, ◌≡◌, ap, fun_ext, refl, subst, sym}
 use native.Mathlib.Omega.{arith}
 use Rattle.laws.proofs.Columns.{set_at}
 use Rattle.laws.proofs.Tests.{same_test}
-use Rattle.refusal.specs.declared.Verdict.TheVariants.{Accepted}
+use Rattle.refusal.specs.Table.{Accepted}
 use Rattle.tree_rules.proofs.Start.{accepted_start, good_root}
 use Rattle.tree_rules.specs.Answers.{Answer}
 use Rattle.tree_rules.specs.Start.{first_state, start_of, start_verdict}

@@ -3,7 +3,7 @@
 -- A request is its kind, 1 to 6, and the node numbers i and j.
 use Rattle.std.specs.Prelude.{◌+◌, ◌<◌, ◌≤◌, ℕ, false, List, ◌↔◌, ◌⊎◌, ◌≡◌}
 use Rattle.refusal.specs.declared.Refusal.TheVariants.{SendLimit}
-use Rattle.refusal.specs.declared.Verdict.TheVariants.{Accepted, Refused}
+use Rattle.refusal.specs.Table.{Accepted, Refused}
 use Rattle.runs.specs.Runs.{Request, accepted_of, run_of}
 use Rattle.tree_rules.specs.Answers.{step_of}
 use Rattle.tree_rules.specs.Rules.{Announce, Send, kind_of}

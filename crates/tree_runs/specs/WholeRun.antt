@@ -1,7 +1,7 @@
 -- Demand 3 for the tree, one claim about whole lists of requests, refused ones included. The proof is in proofs/WholeRun.antt.
 use Rattle.std.specs.Prelude.{◌*◌, ◌+◌, ◌<◌, ◌≤◌, ℕ, length, true, List, [], ◌++◌, ◌↔◌, ◌≢◌, ◌≡◌}
 use Rattle.refusal.specs.Table.{code_of, send_limit}
-use Rattle.refusal.specs.declared.Verdict.TheVariants.{Accepted}
+use Rattle.refusal.specs.Table.{Accepted}
 use Rattle.runs.specs.Runs.{Accepts, Request, accepted_of, next, run_of}
 use Rattle.tree_rules.specs.Answers.{step_of}
 use Rattle.tree_rules.specs.Rules.{Announce, Send}

@@ -14,14 +14,14 @@ use Rattle.refusal.proofs.Table.{accepts, first_row, none_holds, numbered}
 use Rattle.refusal.specs.Table.{NoneHolds, Numbered, ◌⟶◌, also, code_of, first_of, none}
 use Rattle.refusal.specs.declared.Refusal.{Refusal}
 use Rattle.refusal.specs.declared.Refusal.TheVariants.{ShortBuffer, Unsound}
-use Rattle.refusal.specs.declared.Verdict.{Verdict}
-use Rattle.refusal.specs.declared.Verdict.TheVariants.{Accepted, Refused}
+use Rattle.refusal.specs.Table.{Verdict}
+use Rattle.refusal.specs.Table.{Accepted, Refused}
 use Rattle.tree_rules.specs.Soundness.{sound_test}
 use Rattle.tree_rules.specs.State.{State}
 use Rattle.tree_text.proofs.Steps.{verdict_of}
 use Rattle.tree_text.specs.Theorems.{WriteAnswered}
 use Rattle.tree_text.specs.Write.{buffer_of, state_text, told, write_table, write_verdict, written_number, written_of}
-use Rattle.tree_text.specs.declared.Written.TheVariants.{Length, NotWritten}
+use Rattle.tree_text.specs.Write.{Length, NotWritten}
 
 module _ (t : State) (b : List ℕ) where
   pub told_yes : write_verdict t b ≡ Accepted → written_of t b ≡ Length (length (state_text t))

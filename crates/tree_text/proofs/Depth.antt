@@ -10,13 +10,13 @@ use mathlib.Core.Path.{◌∙◌, ◌≡◌, ap, refl, subst, sym}
 use native.Mathlib.Decide.{ℕ_discrete}
 use native.Mathlib.Omega.{arith}
 use Rattle.decimal.specs.Number.{number_at}
-use Rattle.refusal.specs.declared.Verdict.TheVariants.{Accepted}
+use Rattle.refusal.specs.Table.{Accepted}
 use Rattle.tree_text.proofs.Lists.{blank, free, free_falls, free_most, free-set, sized}
 use Rattle.tree_text.proofs.Steps.{body_is, list_next, list_none, node_no, node_yes, then_no, then_yes, verdict_of}
 use Rattle.tree_text.proofs.Taken.{enter_taken, taken}
 use Rattle.tree_text.specs.Read.{and_then, body_of, closed, entered, fresh, list_of, node_of, placed, stepped}
 use Rattle.tree_text.specs.Text.{opening, space}
-use Rattle.tree_text.specs.declared.Reading.{Reading}
+use Rattle.tree_text.specs.Read.{Reading}
 
 module _ (s : List ℕ) (n : ℕ) (n16 : n ≤ 16) where
   abbrev Alike : ℕ → ℕ → Type 0

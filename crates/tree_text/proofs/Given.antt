@@ -11,15 +11,14 @@ use native.Mathlib.Nat.{add-zero}
 use native.Mathlib.Omega.{arith}
 use Rattle.decimal.proofs.Cases.{advance, first_of, take_head}
 use Rattle.decimal.proofs.Numbers.{number_found}
-use Rattle.decimal.specs.Number.{digit_b, number_at}
+use Rattle.decimal.specs.Number.{digit_b, number_at, read}
 use Rattle.decimal.specs.Text.{decimal}
-use Rattle.decimal.specs.declared.Num.TheVariants.{Value}
-use Rattle.refusal.specs.declared.Verdict.TheVariants.{Accepted}
+use Rattle.refusal.specs.Table.{Accepted}
 use Rattle.tree_text.proofs.Lists.{Lists, alone, alone_places, bare, few_left, free, free_falls, free-set, more, no_digit, none, sized}
 use Rattle.tree_text.proofs.Steps.{body_is, close_yes, enter_new, list_next, list_none, node_yes, then_yes}
 use Rattle.tree_text.specs.Read.{and_then, body_of, closed, entered, fresh, list_of, node_of, placed, stepped}
 use Rattle.tree_text.specs.Text.{closing, opening, space}
-use Rattle.tree_text.specs.declared.Reading.{Reading}
+use Rattle.tree_text.specs.Read.{Reading}
 
 -- a reading that went well
 record Got (m : Reading) (e : List ℕ) (at : ℕ) : Type 0 where
@@ -32,10 +31,10 @@ after e at k = record { verdict = Accepted; engager = e; at = at; node = k }
 
 module _ (s : List ℕ) (n : ℕ) (n16 : n ≤ 16) where
   number_read : (at k : ℕ) (u : List ℕ) → k < n → drop at s ≡ decimal k ++ u → digit_b (get_or u 0 0) ≡ false
-      → number_at s at ≡ Value k (at + length (decimal k))
+      → number_at s at ≡ read k (at + length (decimal k))
   number_read at k u kn h d =
       let c : min k 100000 ≡ k = omega arith in
-      number_found s at k u h d ∙ ap (λ (x : ℕ). Value x (at + length (decimal k))) c
+      number_found s at k u h d ∙ ap (λ (x : ℕ). read x (at + length (decimal k))) c
 
   -- a node whose list is read
   node_given :
@@ -47,7 +46,7 @@ module _ (s : List ℕ) (n : ℕ) (n16 : n ≤ 16) where
   node_given left r by low k {e} {e'} {t} u a kn lk f h g =
       let th = take_head s r.at opening (decimal k ++ (t ++ (closing ∷ u))) h in
       let at = r.at + 1 + length (decimal k) in
-      let num : number_at s (r.at + 1) ≡ Value k at = number_read (r.at + 1) k (t ++ (closing ∷ u)) kn th.1 (no_digit u a) in
+      let num : number_at s (r.at + 1) ≡ read k at = number_read (r.at + 1) k (t ++ (closing ∷ u)) kn th.1 (no_digit u a) in
       let enter : entered n r by low (number_at s (r.at + 1)) ≡ placed r k by at = ap (entered n r by low) num ∙ enter_new n r by low k at kn lk f in
       let M : Reading = placed r k by at in
       let L : Reading = list_of left s n M k 0 in

@@ -1,4 +1,4 @@
--- `Lists n k low e e' t`: t is a list of nodes below n, each of them and its own list as document 01 has it, the nodes of t itself in ascending
+-- `Lists n k low e e' t`: t is a list of nodes below n, each of them and its own list as the text has it, the nodes of t itself in ascending
 -- order from `low` on and under node k. None of them is in the tree e; with them it becomes e'. Both directions of reading and writing
 -- go by this relation. Assumes nothing.
 use Prim.Native.Nat.{◌+◌, ◌<◌, ◌≤◌, ℕ}

@@ -1,4 +1,5 @@
 -- The steps of the reader, as the code goes. Assumes nothing.
+use Rattle.std.specs.Prelude.{None}
 use Prim.Native.Nat.{◌+◌, ◌-◌, ◌<◌, ◌≤◌, suc, zero, ℕ}
 use borrow.Author.Tests.{eq-eqb, le-leb, le-ltb, lt-leb, lt-ltb, ne_eqb}
 use lib.ListN.{get_or}
@@ -6,15 +7,14 @@ use mathlib.Core.List.{List}
 use mathlib.Core.Logic.{◌≢◌, ◌⊎◌, inl, inr}
 use mathlib.Core.Path.{◌∙◌, ◌≡◌, ap, refl}
 use native.Mathlib.Omega.{arith}
-use Rattle.decimal.specs.Number.{number_at}
-use Rattle.decimal.specs.declared.Num.TheVariants.{Value, Wrong}
+use Rattle.decimal.specs.Number.{number_at, read}
 use Rattle.refusal.specs.declared.Refusal.{Refusal}
 use Rattle.refusal.specs.declared.Refusal.TheVariants.{NotAForm, UnknownNode}
-use Rattle.refusal.specs.declared.Verdict.{Verdict}
-use Rattle.refusal.specs.declared.Verdict.TheVariants.{Accepted, Refused}
+use Rattle.refusal.specs.Table.{Verdict}
+use Rattle.refusal.specs.Table.{Accepted, Refused}
 use Rattle.tree_text.specs.Read.{and_then, body_of, closed, entered, list_of, node_by, node_of, placed, refused, stepped}
 use Rattle.tree_text.specs.Text.{closing, opening, space}
-use Rattle.tree_text.specs.declared.Reading.{Reading}
+use Rattle.tree_text.specs.Read.{Reading}
 
 -- ---- verdicts
 
@@ -33,24 +33,24 @@ then_no r f e p = rw p
 -- ---- a number
 
 module _ (n : ℕ) (r : Reading) (by low : ℕ) where
-  pub enter_wrong : entered n r by low Wrong ≡ refused r NotAForm
+  pub enter_wrong : entered n r by low None ≡ refused r NotAForm
   unfolding entered
   enter_wrong = refl
 
   module _ (k at : ℕ) where
-    pub enter_large : n ≤ k → entered n r by low (Value k at) ≡ refused r UnknownNode
+    pub enter_large : n ≤ k → entered n r by low (read k at) ≡ refused r UnknownNode
     unfolding entered
     enter_large h = rw (le-leb n k h)
 
-    pub enter_low : k < n → k < low → entered n r by low (Value k at) ≡ refused r NotAForm
+    pub enter_low : k < n → k < low → entered n r by low (read k at) ≡ refused r NotAForm
     unfolding entered
     enter_low h l = rw (lt-leb n k h, lt-ltb k low l)
 
-    pub enter_again : k < n → low ≤ k → get_or r.engager k 16 ≢ 16 → entered n r by low (Value k at) ≡ refused r NotAForm
+    pub enter_again : k < n → low ≤ k → get_or r.engager k 16 ≢ 16 → entered n r by low (read k at) ≡ refused r NotAForm
     unfolding entered
     enter_again h l f = rw (lt-leb n k h, le-ltb k low l, ne_eqb (get_or r.engager k 16) 16 f)
 
-    pub enter_new : k < n → low ≤ k → get_or r.engager k 16 ≡ 16 → entered n r by low (Value k at) ≡ placed r k by at
+    pub enter_new : k < n → low ≤ k → get_or r.engager k 16 ≡ 16 → entered n r by low (read k at) ≡ placed r k by at
     unfolding entered
     enter_new h l f = rw (lt-leb n k h, le-ltb k low l, eq-eqb (get_or r.engager k 16) 16 f)
 

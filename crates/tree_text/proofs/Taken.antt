@@ -1,4 +1,5 @@
 -- What the reader accepts is a node, and a list of nodes. Assumes nothing.
+use Rattle.std.specs.Prelude.{Some, None}
 use Prim.Native.Nat.{◌+◌, ◌<◌, ◌≤◌, suc, zero, ℕ}
 use borrow.Author.Tests.{ne_eqb}
 use lib.Dec.{eqb}
@@ -10,22 +11,20 @@ use mathlib.Core.Path.{◌∙◌, ◌≡◌, ap, refl, subst, sym}
 use native.Mathlib.Decide.{dec_lt, ℕ_discrete}
 use native.Mathlib.Nat.{add-zero}
 use native.Mathlib.Omega.{arith}
-use Rattle.decimal.specs.Number.{number_at}
+use Rattle.decimal.specs.Number.{number_at, Read, read}
 use Rattle.decimal.proofs.Cases.{in_text, rest}
 use Rattle.decimal.proofs.Numbers.{number_sound}
 use Rattle.decimal.specs.Exact.{Stands}
 use Rattle.decimal.specs.Text.{decimal}
-use Rattle.decimal.specs.declared.Num.{Num}
-use Rattle.decimal.specs.declared.Num.TheVariants.{Value, Wrong}
 use Rattle.refusal.proofs.Table.{not_both}
 use Rattle.refusal.specs.declared.Refusal.{Refusal}
 use Rattle.refusal.specs.declared.Refusal.TheVariants.{NotAForm, UnknownNode}
-use Rattle.refusal.specs.declared.Verdict.TheVariants.{Accepted}
+use Rattle.refusal.specs.Table.{Accepted}
 use Rattle.tree_text.proofs.Lists.{Lists, more, none}
 use Rattle.tree_text.proofs.Steps.{body_is, close_no, close_yes, enter_again, enter_large, enter_low, enter_new, enter_wrong, list_next, list_none, list_zero, node_no, node_yes, then_no, then_yes, verdict_of}
 use Rattle.tree_text.specs.Read.{and_then, body_of, closed, entered, list_of, node_of, placed, refused, stepped}
 use Rattle.tree_text.specs.Text.{closing, opening, space}
-use Rattle.tree_text.specs.declared.Reading.{Reading}
+use Rattle.tree_text.specs.Read.{Reading}
 
 -- ---- the parts of a reading that is accepted
 
@@ -39,18 +38,18 @@ then_accepted r f m h a =
 not_refused : (r m : Reading) (e : Refusal) → refused r e ≡ m → m.verdict ≡ Accepted → ⊥
 not_refused r m e h a = not_both a (ap (λ (x : Reading). x.verdict) (sym h))
 
-pub record EnterTaken (n : ℕ) (r m : Reading) (by low : ℕ) (num : Num) : Type 0 where
+pub record EnterTaken (n : ℕ) (r m : Reading) (by low : ℕ) (num : Read ℕ) : Type 0 where
   pub k : ℕ
   pub at : ℕ
-  pub number : num ≡ Value k at
+  pub number : num ≡ read k at
   pub inside : k < n
   pub order : low ≤ k
   pub entry : get_or r.engager k 16 ≡ 16
   pub placing : m ≡ placed r k by at
 
-pub enter_taken : (n : ℕ) (r m : Reading) (by low : ℕ) (num : Num) → entered n r by low num ≡ m → m.verdict ≡ Accepted → EnterTaken n r m by low num
-enter_taken n r m by low Wrong h a = absurd (not_refused r m NotAForm (sym (enter_wrong n r by low) ∙ h) a)
-enter_taken n r m by low (Value k at) h a =
+pub enter_taken : (n : ℕ) (r m : Reading) (by low : ℕ) (num : Read ℕ) → entered n r by low num ≡ m → m.verdict ≡ Accepted → EnterTaken n r m by low num
+enter_taken n r m by low None h a = absurd (not_refused r m NotAForm (sym (enter_wrong n r by low) ∙ h) a)
+enter_taken n r m by low (Some (k, at)) h a =
     elim (dec_lt k n) [
       | no g ↦ absurd (not_refused r m UnknownNode (sym (enter_large n r by low k at (omega arith)) ∙ h) a)
       | yes l ↦
@@ -118,7 +117,7 @@ module _ (s : List ℕ) (n : ℕ) (n16 : n ≤ 16) where
   TakesLists left =
       (r m : Reading) (k low : ℕ) → k < 16 → list_of left s n r k low ≡ m → m.verdict ≡ Accepted → ListTaken s n r m k low
 
-  number_stands : (at k e : ℕ) → number_at s at ≡ Value k e → k < n → Stands s at k e
+  number_stands : (at k e : ℕ) → number_at s at ≡ read k e → k < n → Stands s at k e
   number_stands at k e h kn =
       let w = number_sound s at k e h in
       let same : w.0 ≡ k = omega (arith, w.2) in

@@ -14,7 +14,7 @@ use Rattle.laws.proofs.Tests.{both, not_eq, split}
 use Rattle.refusal.proofs.Table.{not_both}
 use Rattle.refusal.specs.declared.Refusal.{Refusal}
 use Rattle.refusal.specs.declared.Refusal.TheVariants.{NodeCount, NotAForm}
-use Rattle.refusal.specs.declared.Verdict.TheVariants.{Accepted, Refused}
+use Rattle.refusal.specs.Table.{Accepted, Refused}
 use Rattle.tree_rules.specs.Soundness.{Sound}
 use Rattle.tree_rules.specs.State.{State, climb}
 use Rattle.tree_text.proofs.Depth.{depth}
@@ -28,8 +28,8 @@ use Rattle.tree_text.proofs.Trees.{tree_lists}
 use Rattle.tree_text.specs.Read.{end_of, fresh, node_of, nothing, read_of}
 use Rattle.tree_text.specs.Text.{closing, list_text, opening, text_of}
 use Rattle.tree_text.specs.Theorems.{DepthEnough, EngagementTree, NodeCountFirst, ReadBack, ReadExact, given}
-use Rattle.tree_text.specs.declared.Found.{Found}
-use Rattle.tree_text.specs.declared.Reading.{Reading}
+use Rattle.tree_text.specs.Read.{Found}
+use Rattle.tree_text.specs.Read.{Reading}
 
 -- ---- trees
 

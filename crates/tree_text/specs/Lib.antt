@@ -1,4 +1,5 @@
 pub mod Text
 pub mod Write
 pub mod Read
+pub mod View
 pub mod Theorems

@@ -1,19 +1,22 @@
--- The reader: "The first fault from the left decides". It reads N nodes at most, so that nodes left bound its depth (`left`): this bound is
+-- The reader: the first fault from the left decides. It reads n nodes at most, so that nodes left bound its depth (`left`): this bound is
 -- never met (`DepthEnough` of Theorems.antt).
-use Rattle.std.specs.Prelude.{◌+◌, suc, zero, ℕ, eqb, leb, ltb, get_or, length, replicate, set, ◌&&◌, cond, not, List, [], ◌∷◌}
-use Rattle.decimal.specs.Number.{number_at}
-use Rattle.decimal.specs.declared.Num.{Num}
-use Rattle.decimal.specs.declared.Num.TheVariants.{Value, Wrong}
+use Rattle.std.specs.Prelude.{◌+◌, suc, zero, ℕ, eqb, leb, ltb, get_or, length, replicate, set, ◌&&◌, cond, not, List, [], ◌∷◌, Some, None}
+use Rattle.decimal.specs.Number.{number_at, Read}
 use Rattle.refusal.specs.Table.{Row, ◌⟶◌, first_of, settle}
 use Rattle.refusal.specs.declared.Refusal.{Refusal}
 use Rattle.refusal.specs.declared.Refusal.TheVariants.{NodeCount, NotAForm, UnknownNode}
-use Rattle.refusal.specs.declared.Verdict.{Verdict}
-use Rattle.refusal.specs.declared.Verdict.TheVariants.{Accepted, Refused}
+use Rattle.refusal.specs.Table.{Verdict}
+use Rattle.refusal.specs.Table.{Accepted, Refused}
 use Rattle.tree_text.specs.Text.{closing, opening, space}
-use Rattle.tree_text.specs.declared.Found.{Found}
-use Rattle.tree_text.specs.declared.Reading.{Reading}
 
 -- ---- a reading under way
+
+-- a verdict, the engagers so far, the index of the next byte, the node entered or closed last
+pub record Reading : Type 0 where
+  pub verdict : Verdict
+  pub engager : List ℕ
+  pub at : ℕ
+  pub node : ℕ
 
 abbrev pub refused : Reading → Refusal → Reading
 refused r e = record { verdict = Refused e; engager = r.engager; at = r.at; node = r.node }
@@ -28,8 +31,8 @@ and_then r f = settle r.verdict (f r) r
 
 -- ---- a node's number
 
--- "where a number belongs, one without leading zero, read to its last digit, of N or more is 6, anything else, such as a leading zero, a
--- repeated board, other spacing or order, is 10"
+-- where a number belongs, one without leading zero, read to its last digit, of n or more is 6; anything else, such as a leading zero, a
+-- repeated node, other spacing or order, is 10
 abbrev pub number_table : ℕ → Reading → ℕ → ℕ → List Row
 number_table n r low k =
     (leb n k ⟶ UnknownNode)
@@ -46,9 +49,9 @@ judged Accepted m r = m
 judged (Refused e) m r = refused r e
 
 -- a number that was read, as a node of engager `by`, and no lower than `low`
-unfoldable pub entered : ℕ → Reading → ℕ → ℕ → Num → Reading
-entered n r by low Wrong = refused r NotAForm
-entered n r by low (Value k at) = judged (first_of (number_table n r low k)) (placed r k by at) r
+unfoldable pub entered : ℕ → Reading → ℕ → ℕ → Read ℕ → Reading
+entered n r by low None = refused r NotAForm
+entered n r by low (Some (k, at)) = judged (first_of (number_table n r low k)) (placed r k by at) r
 
 -- ---- a node and a list
 
@@ -83,6 +86,12 @@ node_of left s n r by low = node_by (list_of left s n) s n r by low
 
 -- ---- the whole text
 
+-- what was read; where it is refused, no engagers and no root, each 16
+pub record Found : Type 0 where
+  pub verdict : Verdict
+  pub engager : List ℕ
+  pub root : ℕ
+
 abbrev pub fresh : Reading
 fresh = record { verdict = Accepted; engager = replicate 16 16; at = 0; node = 0 }
 
@@ -90,7 +99,7 @@ fresh = record { verdict = Accepted; engager = replicate 16 16; at = 0; node = 0
 abbrev pub nothing : Refusal → Found
 nothing e = record { verdict = Refused e; engager = replicate 16 16; root = 16 }
 
--- "a text that must end with its last bracket, and gives back the engagers, the outermost board being the root"
+-- a text must end with its last bracket, and gives back the engagers, the outermost node being the root
 abbrev pub ended : Verdict → Reading → ℕ → Found
 ended Accepted m size =
     cond (eqb m.at size) (record { verdict = Accepted; engager = m.engager; root = m.node }) (nothing NotAForm)
@@ -99,6 +108,6 @@ ended (Refused e) m size = nothing e
 abbrev pub end_of : List ℕ → Reading → Found
 end_of s m = ended m.verdict m (length s)
 
--- "Reading takes N (outside 1 to 16: 1, first) and a text"
+-- a number of nodes outside 1 to 16 is refused with 1, before the text is looked at
 unfoldable pub read_of : ℕ → List ℕ → Found
 read_of n s = cond (ltb 0 n && leb n 16) (end_of s (node_of 16 s n fresh 16 0)) (nothing NodeCount)

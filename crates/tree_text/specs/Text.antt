@@ -1,4 +1,4 @@
--- Document 01, "Text of the tree": the text of a tree of engagers, 16 places, 16 for a node that has none.
+-- The text of a tree of engagers, 16 places, 16 for a node that has none.
 use Rattle.std.specs.Prelude.{◌+◌, ◌-◌, suc, zero, ℕ, eqb, get_or, length, Bool, ◌&&◌, cond, not, List, [], ◌++◌, ◌∷◌}
 use Rattle.decimal.specs.Text.{decimal}
 use Rattle.laws.specs.Sums.{sum_to}
@@ -16,12 +16,12 @@ space = 32
 abbrev pub is_under : List ℕ → ℕ → ℕ → Bool
 is_under e k c = eqb (get_or e c 16) k && not (eqb c k)
 
--- "a list is boards in ascending order, each after one space": the children of k among the m nodes from c on, `node` being a node's text
+-- a list is nodes in ascending order, each after one space: the children of k among the m nodes from c on, `node` being a node's text
 unfoldable pub children_text : (ℕ → List ℕ) → List ℕ → ℕ → ℕ → ℕ → List ℕ
 children_text node e k zero c = []
 children_text node e k (suc m) c = cond (is_under e k c) (space ∷ node c) [] ++ children_text node e k m (c + 1)
 
--- "A board is an opening bracket, its number, then its list of children, then a closing bracket": node k, no deeper than `left` nodes
+-- a node is an opening bracket, its number, then its list of children, then a closing bracket: node k, no deeper than `left` nodes
 unfoldable pub node_text : ℕ → List ℕ → ℕ → List ℕ
 node_text zero e k = []
 node_text (suc left) e k = opening ∷ (decimal k ++ (children_text (node_text left e) e k 16 0 ++ (closing ∷ [])))
@@ -30,7 +30,7 @@ node_text (suc left) e k = opening ∷ (decimal k ++ (children_text (node_text l
 unfoldable pub list_text : ℕ → List ℕ → ℕ → ℕ → List ℕ
 list_text left e k c = children_text (node_text left e) e k (16 - c) c
 
--- "Only engaged boards are written, the root outermost"
+-- only engaged nodes are written, the root outermost
 abbrev pub text_of : List ℕ → ℕ → List ℕ
 text_of e root = node_text 16 e root
 

@@ -4,15 +4,15 @@ use Rattle.decimal.specs.Exact.{Stands}
 use Rattle.refusal.specs.Table.{FirstIs, NoneHolds, Numbered, Row}
 use Rattle.refusal.specs.declared.Refusal.{Refusal}
 use Rattle.refusal.specs.declared.Refusal.TheVariants.{NodeCount, NotAForm, UnknownNode}
-use Rattle.refusal.specs.declared.Verdict.TheVariants.{Accepted, Refused}
+use Rattle.refusal.specs.Table.{Accepted, Refused}
 use Rattle.tree_rules.specs.Soundness.{Sound}
 use Rattle.tree_rules.specs.State.{State, climb}
 use Rattle.tree_text.specs.Read.{fresh, node_of, nothing, read_of, refused}
 use Rattle.tree_text.specs.Text.{length_of, longest, opening, text_of}
 use Rattle.tree_text.specs.Write.{buffer_of, state_text, write_table, write_verdict, written_number, written_of}
-use Rattle.tree_text.specs.declared.Found.{Found}
-use Rattle.tree_text.specs.declared.Reading.{Reading}
-use Rattle.tree_text.specs.declared.Written.TheVariants.{Length, NotWritten}
+use Rattle.tree_text.specs.Read.{Found}
+use Rattle.tree_text.specs.Read.{Reading}
+use Rattle.tree_text.specs.Write.{Length, NotWritten}
 
 -- a tree of n nodes: every engaged node's chain of engagers reaches the root
 pub record EngagementTree (n : ℕ) (e : List ℕ) (root : ℕ) : Type 0 where
@@ -37,12 +37,12 @@ pub record ReadExact : Type 0 where
   pub is_tree : (n : ℕ) (s : List ℕ) → (read_of n s).verdict ≡ Accepted → EngagementTree n (read_of n s).engager (read_of n s).root
   pub is_text : (n : ℕ) (s : List ℕ) → (read_of n s).verdict ≡ Accepted → s ≡ text_of (read_of n s).engager (read_of n s).root
 
--- "Reading takes N (outside 1 to 16: 1, first)": whatever the text.
+-- A number of nodes outside 1 to 16 is refused with 1, whatever the text.
 pub record NodeCountFirst : Type 0 where
   pub few : (s : List ℕ) → read_of 0 s ≡ nothing NodeCount
   pub many : (n : ℕ) (s : List ℕ) → 16 < n → read_of n s ≡ nothing NodeCount
 
--- "where a number belongs": what follows a node's opening bracket is judged before anything that stands inside the node, whatever comes
+-- Where a number belongs, what follows a node's opening bracket is judged before anything that stands inside the node, whatever comes
 -- after it. `Stands s at v e` says that the text of the number v, however long, stands in s from `at` to `e`, its last digit before e.
 pub record NumberFirst : Type 0 where
   -- a number of n or more: 6

@@ -1,41 +1,26 @@
-// The text of the engagement tree: definitions in specs/, their theorems in proofs/. This file declares what the writer and the reader answer.
+// The text of the engagement tree: definitions in specs/, their theorems in proofs/. This file declares what the reader answers, and the number of what the writer does.
 #![tactic(auto)]
 
 ghost use Rattle.std.specs.Prelude.{◌≡◌};
+ghost use Rattle.tree_text.specs.View.{written};
 ghost use Rattle.tree_text.specs.Write.{written_number};
 
-use refusal::{Refusal, TREE_NODES, Verdict};
+use refusal::{Refusal, TREE_NODES};
 
-// The length of the text that was written, or why none was.
-#[derive(Clone, Copy)]
-pub enum Written {
-    Length(usize),
-    NotWritten(Refusal),
-}
-
-// A reading under way: the engagers so far, the index of the next byte, the node entered or closed last.
-#[derive(Clone, Copy)]
-pub struct Reading {
-    pub verdict: Verdict,
-    pub engager: [u8; TREE_NODES],
-    pub at: usize,
-    pub node: usize,
-}
-
-// What was read; where it is refused, no engagers and no root, each 16.
-#[derive(Clone, Copy)]
+/// What was read: each node's engager, 16 where it has none, and the root.
+#[derive(Clone, Copy, Debug, PartialEq, Eq)]
 pub struct Found {
-    pub verdict: Verdict,
     pub engager: [u8; TREE_NODES],
     pub root: usize,
 }
 
-// The number of the writer's answer, 0 where the text is written.
-pub fn written_number(w: Written) -> u8
-    ensures { result ≡ written_number w }
+// Kept beside `refusal::code`: the contract of the call that writes speaks of its definition.
+/// The number of the writer's answer, 0 where the text is written.
+pub fn written_number(answer: Result<usize, Refusal>) -> u8
+    ensures { result ≡ written_number (written answer) }
 {
-    match w {
-        Written::Length(_) => 0,
-        Written::NotWritten(e) => refusal::number(e),
+    match answer {
+        Ok(_) => 0,
+        Err(refusal) => refusal.number(),
     }
 }

@@ -1,114 +1,122 @@
 // The writer of the text of the engagement tree.
 #![tactic(auto)]
 
-ghost use Rattle.std.specs.Prelude.{◌≡◌, ◌+◌, ◌≤◌, ◌<◌, length};
+ghost use Rattle.std.specs.Prelude.{◌≡◌, ◌+◌, ◌≤◌, ◌<◌, length, true};
 ghost use Rattle.decimal.specs.Text.{put};
-ghost use Rattle.tree.specs.View.{state};
+ghost use Rattle.tree_rules.specs.Soundness.{sound_test};
 ghost use Rattle.tree_text.specs.Text.{is_under, node_text, list_text, text_of, share, length_of};
+ghost use Rattle.tree_text.specs.View.{written};
 ghost use Rattle.tree_text.specs.Write.{written_of, buffer_of};
 
 use refusal::{Refusal, TREE_NODES};
 use tree::Tree;
 use tree_rules::NO_ENGAGER;
-use tree_text::Written;
 
-// Is node c a child of node k?
-fn is_under(e: &[u8; TREE_NODES], k: usize, c: usize) -> bool
-    requires { (length e.now ≡ 16) × (k < 16) × (c < 16) }
-    ensures { result ≡ is_under e.now k c }
+// Is the node `child` a child of the node?
+fn is_under(engager: &[u8; TREE_NODES], node: usize, child: usize) -> bool
+    requires { (length engager.now ≡ 16) × (child < 16) }
+    ensures { result ≡ is_under engager.now node child }
 {
-    let node = k as u8;
-    (e[c] == node) & (c != k)
+    usize::from(engager[child]) == node && child != node
 }
 
-// The text of node k at `at`; where it ends. `left` bounds the depth.
+// The text of a node at `at`; where it ends. `left` bounds the depth.
+// Kept: the writers of a node and of a list call each other, as the text is built of nodes and lists (a named form of the project).
 #[cycle(write_list_write_node)]
-fn write_node(buf: &mut [u8], at: usize, e: &[u8; TREE_NODES], k: usize, left: usize) -> usize
-    requires { (length e.now ≡ 16) × (k < 16) × (at + length (node_text left e.now k) ≤ length buf.old) }
-    ensures { (result ≡ at + length (node_text left e.now k)) × (buf.new ≡ put buf.old at (node_text left e.now k)) }
+fn write_node(
+    buf: &mut [u8],
+    at: usize,
+    engager: &[u8; TREE_NODES],
+    node: usize,
+    left: usize,
+) -> usize
+    requires { (length engager.now ≡ 16) × (node < 16) × (at + length (node_text left engager.now node) ≤ length buf.old) }
+    ensures { (result ≡ at + length (node_text left engager.now node)) × (buf.new ≡ put buf.old at (node_text left engager.now node)) }
 {
     if left == 0 {
         return at;
     }
     buf[at] = b'(';
-    let p = decimal::put_decimal(buf, at + 1, k as u64);
-    let q = write_list(buf, p, e, k, 0, left - 1);
+    let p = decimal::put_decimal(buf, at + 1, node as u64);
+    let q = write_list(buf, p, engager, node, 0, left - 1);
     buf[q] = b')';
     q + 1
 }
 
-// The children of node k from node `from` on, each after a space.
+// The children of a node from node `from` on, each after a space; where they end.
 #[cycle(write_list_write_node)]
 fn write_list(
     buf: &mut [u8],
     at: usize,
-    e: &[u8; TREE_NODES],
-    k: usize,
+    engager: &[u8; TREE_NODES],
+    node: usize,
     from: usize,
     left: usize,
 ) -> usize
-    requires { (length e.now ≡ 16) × (k < 16) × (from ≤ 16) × (at + length (list_text left e.now k from) ≤ length buf.old) }
-    ensures { (result ≡ at + length (list_text left e.now k from)) × (buf.new ≡ put buf.old at (list_text left e.now k from)) }
+    requires { (length engager.now ≡ 16) × (node < 16) × (from ≤ 16) × (at + length (list_text left engager.now node from) ≤ length buf.old) }
+    ensures { (result ≡ at + length (list_text left engager.now node from)) × (buf.new ≡ put buf.old at (list_text left engager.now node from)) }
 {
     if 15 < from {
         return at;
     }
-    if is_under(e, k, from) {
+    if is_under(engager, node, from) {
         buf[at] = b' ';
-        let p = write_node(buf, at + 1, e, from, left);
-        return write_list(buf, p, e, k, from + 1, left);
+        let p = write_node(buf, at + 1, engager, from, left);
+        return write_list(buf, p, engager, node, from + 1, left);
     }
-    write_list(buf, at, e, k, from + 1, left)
+    write_list(buf, at, engager, node, from + 1, left)
 }
 
-// The text of a tree at `at`, where there is room for it; where it ends.
-pub fn put_tree(buf: &mut [u8], at: usize, e: &[u8; TREE_NODES], root: usize) -> usize
-    requires { (length e.now ≡ 16) × (root < 16) × (at + length (text_of e.now root) ≤ length buf.old) }
-    ensures { (result ≡ at + length (text_of e.now root)) × (buf.new ≡ put buf.old at (text_of e.now root)) }
+/// The text of a tree at `at`, where there is room for it; where it ends.
+pub fn put_tree(buf: &mut [u8], at: usize, engager: &[u8; TREE_NODES], root: usize) -> usize
+    requires { (length engager.now ≡ 16) × (root < 16) × (at + length (text_of engager.now root) ≤ length buf.old) }
+    ensures { (result ≡ at + length (text_of engager.now root)) × (buf.new ≡ put buf.old at (text_of engager.now root)) }
 {
-    write_node(buf, at, e, root, TREE_NODES)
+    write_node(buf, at, engager, root, TREE_NODES)
 }
 
-// What node i adds to the length.
-fn share_of(e: &[u8; TREE_NODES], i: usize) -> usize
-    requires { (length e.now ≡ 16) × (i < 16) }
-    ensures { (result ≡ share e.now i) × (result ≤ 5) }
+// What a node adds to the length: two brackets, its digits, and the space before it; nothing where it is not engaged.
+fn share_of(engager: &[u8; TREE_NODES], node: usize) -> usize
+    requires { (length engager.now ≡ 16) × (node < 16) }
+    ensures share { result ≡ share engager.now node }
+    ensures small { result ≤ 5 }
 {
-    if e[i] == NO_ENGAGER {
+    if engager[node] == NO_ENGAGER {
         return 0;
     }
-    3 + decimal::width(i as u64)
+    3 + decimal::width(node as u64)
 }
 
-// How long the text of a tree is.
-pub fn text_length(e: &[u8; TREE_NODES]) -> usize
-    requires { length e.now ≡ 16 }
-    ensures { result ≡ length_of e.now }
+/// How long the text of a tree is, in bytes.
+pub fn text_length(engager: &[u8; TREE_NODES]) -> usize
+    requires { length engager.now ≡ 16 }
+    ensures { result ≡ length_of engager.now }
 {
-    let mut sum: usize = 0;
-    let mut i = 0;
-    while i < TREE_NODES {
-        sum += share_of(e, i);
-        i += 1;
-    }
-    if sum == 0 {
-        return 0;
-    }
-    sum - 1
+    let shares: usize = (0..TREE_NODES).map(|node| share_of(engager, node)).sum();
+    shares.saturating_sub(1)
 }
 
-// The text of the tree in the buffer, from its first byte on.
-pub fn write(tree: Tree, buf: &mut [u8]) -> Written
-    ensures { (result ≡ written_of (state tree) buf.old) × (buf.new ≡ buffer_of (state tree) buf.old) }
+// The text of a sound tree in the buffer, where it is long enough.
+fn write_sound(tree: &Tree, buf: &mut [u8]) -> Result<usize, Refusal>
+    requires { sound_test tree.now ≡ true }
+    ensures told { written result ≡ written_of tree.now buf.old }
+    ensures left { buf.new ≡ buffer_of tree.now buf.old }
+{
+    if buf.len() < text_length(&tree.engager) {
+        return Err(Refusal::ShortBuffer);
+    }
+    Ok(put_tree(buf, 0, &tree.engager, tree.root))
+}
+
+/// Writes the text of the tree into the buffer, from its first byte on, and tells its length. Refused, and the buffer left as it was, with 3
+/// where the tree is not sound, and then with 12 where the buffer is shorter than the text.
+#[tactic(auto, using(crate::proofs::Shares::unsound_told, crate::proofs::Shares::unsound_left))]
+pub fn write(tree: &Tree, buf: &mut [u8]) -> Result<usize, Refusal>
+    ensures told { written result ≡ written_of tree.now buf.old }
+    ensures left { buf.new ≡ buffer_of tree.now buf.old }
 {
     if !tree.is_sound() {
-        return Written::NotWritten(Refusal::Unsound);
+        return Err(Refusal::Unsound);
     }
-    let e = tree.engager;
-    let root = tree.root;
-    if buf.len() < text_length(&e) {
-        return Written::NotWritten(Refusal::ShortBuffer);
-    }
-    let end = put_tree(buf, 0, &e, root);
-    Written::Length(end)
+    write_sound(tree, buf)
 }

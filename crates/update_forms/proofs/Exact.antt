@@ -1,11 +1,12 @@
 -- What is read of a wrapped line is what it says. Assumes nothing.
+use Rattle.std.specs.Prelude.{None}
 use mathlib.Core.Path.{◌≡◌}
 use mathlib.Core.Logic.{◌↔◌}
 use mathlib.Core.List.{List}
 use Prim.Native.Nat.{ℕ, ◌≤◌, ◌<◌}
 use lib.ListN.{length, drop}
 use Rattle.forms.specs.Form.{form_text, SmallForm, Says, SaysAt, line}
-use Rattle.forms.specs.Read.{read, other}
+use Rattle.forms.specs.Read.{read}
 use Rattle.forms.proofs.Reading.{line_exact, line_other, line_inside, line_once}
 use Rattle.update_forms.specs.Wrapped.{Wrapped, wrapped_form}
 use Rattle.update_forms.specs.Read.{wrapped_at}
@@ -16,7 +17,7 @@ pub wrapped_exact : (s : List ℕ) (at : ℕ) (w : Wrapped) (e : ℕ) → (wrapp
 unfolding wrapped_at
 wrapped_exact = line_exact wrapped_form wrapped_reader
 
-pub wrapped_other : (s : List ℕ) (at : ℕ) → (wrapped_at s at ≡ other) ↔ ((w : Wrapped) → Says (line (drop at s)) (wrapped_form w) → ⊥)
+pub wrapped_other : (s : List ℕ) (at : ℕ) → (wrapped_at s at ≡ None) ↔ ((w : Wrapped) → Says (line (drop at s)) (wrapped_form w) → ⊥)
 unfolding wrapped_at
 wrapped_other = line_other wrapped_form wrapped_reader
 

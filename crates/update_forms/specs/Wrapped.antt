@@ -1,4 +1,4 @@
--- The wrapped lines of a log: a step or a start of the ring, and the number of its update (document 02, Q-1). Assumes nothing.
+-- The wrapped lines of a log: a step or a start of the ring, and the number of its update. Assumes nothing.
 use Rattle.std.specs.Prelude.{List, ℕ}
 use Rattle.forms.specs.declared.RingStep.{RingStep}
 use Rattle.forms.specs.Form.{Form, bare_ring, ring_with, update, ring_form}

@@ -1,88 +1,225 @@
--- What turns come to, one after the other. Assumes nothing.
-use Prim.Native.Nat.{◌-◌, ◌<◌, ℕ}
-use Rattle.watch.specs.Turn.{clamp_len}
-use borrow.Author.Tests.{eqb-false, lt-ltb, not-false}
-use lib.IntN.{negsuc, pos, ℤ}
-use lib.ListN.{length}
-use lib.Signed.{lt_z}
-use mathlib.Core.Bool.{Bool, ◌&&◌, false, not, true}
-use mathlib.Core.List.{List, [], ◌++◌, ◌∷◌, append-nil}
+-- What the turns of the program come to. Assumes nothing.
+use Prim.Native.Nat.{◌+◌, ◌<◌, ℕ}
+use lib.ListN.{length, length-take, take}
+use borrow.Author.Tests.{eqb-false, eqb-true}
+use lib.Dec.{eqb}
+use mathlib.Core.Bool.{◌||◌, false, true}
+use mathlib.Core.List.{List, [], ◌++◌, ◌∷◌, append_assoc, append-nil}
+use mathlib.Core.Logic.{◌⊎◌, inl, inr}
 use mathlib.Core.Path.{◌∙◌, ◌≡◌, ap, refl, subst, subst⁻¹, sym}
 use native.Mathlib.Omega.{arith}
-use Rattle.laws.proofs.Tests.{false_true}
-use Rattle.log_finish.specs.Theorems.{Feeds, no_piece, piece}
-use Rattle.log_state.specs.Feed.{Good, decided}
-use Rattle.log_state.specs.declared.Log.{Log}
-use Rattle.watch.specs.Run.{Pumped, Turns, another, answers_of, is_end, last, piece_of, ran_out}
-use Rattle.watch.specs.Turn.{Answers, Turned, after}
-use Rattle.watch.specs.declared.Step.{Step}
+use Rattle.laws.proofs.Tests.{neither, one_of}
+use Rattle.log_lines.specs.Stages.{SoundStage}
+use Rattle.log_rules.specs.Answers.{fresh}
+use Rattle.log_rules.specs.Lines.{joined}
+use Rattle.log_rules.specs.Output.{output_of, rest_of}
+use Rattle.log_rules.specs.Pieces.{PartLine, empty}
+use Rattle.std.proofs.KnownBytes.{Appends-kept, Appends-trans, Consumes-kept, Consumes-trans}
+use Rattle.std.specs.Io.KnownBytes.{Appends, Consumes, IsAtEnd}
+use Rattle.std.specs.Prelude.{Err, IfSome, MatchResult, None, Ok, OnErr, OnOk, Option, Result, Some}
+use Rattle.watch_log.proofs.Theorems.{front, settled}
+use Rattle.watch_log.specs.Feed.{Good, LogState, decided, decided_by}
+use Rattle.watch_log.specs.Finish.{Finished}
+use Rattle.watch.proofs.Known.{begun, whole}
+use Rattle.watch.specs.Run.{AllRead, IsOver, ProgramFailed, ProgramRan, Pumped, PumpFailed, Turns, another, at_end, none}
+use Rattle.watch.specs.Turn.{Begun, Stopped, Turned, no_read, no_write}
+use Rattle.log_rules.specs.Answers as rules
 
-pub no_turns_left : (n : ℕ) (l : Log) (line : List ℕ) → n ≡ 0 → Good l line
-    → Pumped n l line (record { log = l; count = 0; more = false; failed = true }) line
-no_turns_left n l line none good =
-    subst⁻¹ (λ (m : ℕ). Pumped m l line (record { log = l; count = 0; more = false; failed = true }) line) none
-    (record { pieces = []; texts = []; end = false; turns = ran_out; fed = no_piece; good = good })
+-- what is told of a result
+pub ok_then : {A E P Q : Type 0} (r : Result A E) → OnOk r P → (P → Q) → OnOk r Q
+ok_then (Ok x) p f = f p
+ok_then (Err e) p f = tt
 
--- ---- one turn after the other
+pub either : {A E P Q P' Q' : Type 0} (r : Result A E) → OnOk r P → OnErr r Q → (P → P') → (Q → Q') → MatchResult r (λ x. P') (λ e. Q')
+either (Ok x) p q f g = f p
+either (Err e) p q f g = g q
 
--- the answers of a turn are those of its step
-pub answered_by : {l : Log} {buffer line line' out out' : List ℕ} {s : Step} (t : Turned l buffer s line line' out out')
-    → Answers l (clamp_len t.got (length buffer)) buffer s line line' out out'
-answered_by {l} {buffer} {line} {line'} {out} {out'} t =
-    subst⁻¹ (λ (x : Step). Answers l (clamp_len t.got (length buffer)) buffer x line line' out out') t.turned t.answered.answers
+joined_more : (ps : List (List ℕ)) (p : List ℕ) → joined (ps ++ (p ∷ [])) ≡ joined ps ++ p
+joined_more [] p = append-nil p
+joined_more (q ∷ ps) p = ap (λ (x : List ℕ). q ++ x) (joined_more ps p) ∙ sym (append_assoc q (joined ps) p)
 
-module _ {n : ℕ} {l : Log} {buffer line line₁ out out₁ : List ℕ} {s₁ : Step} (some : 0 < n) (t : Turned l buffer s₁ line line₁ out out₁) where
-  pub last_turn : s₁.more ≡ false → Pumped n l line s₁ line₁
-  last_turn e = record {
-    pieces = piece_of t ∷ [];
-    texts = answers_of t;
-    end = _;
-    turns = last some t e;
-    fed =
-        subst (λ (x : List ℕ). Feeds l line (piece_of t ∷ []) x s₁.log line₁) (append-nil (answers_of t))
-        (piece (record { log = s₁.log; count = s₁.count }) (answered_by t) no_piece);
-    good = (answered_by t).good;
+all_read_more : (ps : List (List ℕ)) (p : List ℕ) → AllRead ps → 0 < length p → AllRead (ps ++ (p ∷ []))
+all_read_more [] p all some = (some, tt)
+all_read_more (q ∷ ps) p all some = (all.0, all_read_more ps p all.1 some)
+
+last_read : (ps : List (List ℕ)) (p : List ℕ) → AllRead (ps ++ (p ∷ [])) → 0 < length p
+last_read [] p all = all.0
+last_read (q ∷ ps) p all = last_read ps p all.1
+
+turns_good : {ps : List (List ℕ)} {texts : List ℕ} {l : LogState} → Turns ps texts l → Good l
+turns_good (none {l} e) = record {
+  sound = subst⁻¹ (λ (s : rules.Stage). SoundStage s l.lines) e.0 tt;
+  most = omega (arith, e.1);
+  part = subst⁻¹ PartLine e.2 empty;
+}
+turns_good (another count turns all more short f) = f.good
+
+-- what the turns wrote is the output, as far as they read
+turns_output : {ps : List (List ℕ)} {texts : List ℕ} {l : LogState} → Turns ps texts l → (rest : List ℕ)
+    → output_of (joined ps ++ rest) ≡ texts ++ rest_of l.stage l.lines l.held rest
+turns_output (none {l} e) rest =
+    sym (ap (λ (s : rules.Stage). rest_of s l.lines l.held rest) e.0
+    ∙ (ap (λ (k : ℕ). rest_of fresh k l.held rest) e.1 ∙ ap (λ (h : List ℕ). rest_of fresh 0 h rest) e.2))
+turns_output (another {l} {l'} {p} {out} {out'} {texts} {ps} count turns all more short f) rest =
+    ap (λ (x : List ℕ). output_of (x ++ rest)) (joined_more ps p)
+    ∙ (ap output_of (append_assoc (joined ps) p rest)
+    ∙ (turns_output turns (p ++ rest)
+    ∙ (ap (λ (x : List ℕ). texts ++ x) (f.left rest)
+    ∙ (sym (append_assoc texts f.written (rest_of l'.stage l'.lines l'.held rest))
+    ∙ ap (λ (x : List ℕ). (texts ++ x) ++ rest_of l'.stage l'.lines l'.held rest) (sym (front out f.written out' count f.wrote f.room))))))
+
+-- so far, where nothing is over
+pub record Going (before after old new : Option (List ℕ)) (l : LogState) : Type 0 where
+  pub pieces : List (List ℕ)
+  pub texts : List ℕ
+  pub turns : Turns pieces texts l
+  pub read : Consumes before after (joined pieces)
+  pub wrote : Appends old new texts
+  pub all : AllRead pieces
+  pub more : decided l ≡ false
+
+-- is the log over?
+over_of : (after : Option (List ℕ)) (l : LogState) (got : ℕ) → (got ≡ 0 → IsAtEnd after) → (eqb got 0 || decided l) ≡ true → IsOver after l
+over_of after l got end e = go (one_of (eqb got 0) (decided l) e)
+  where
+    go : (eqb got 0 ≡ true) ⊎ (decided l ≡ true) → IsOver after l
+    go (inl h) = inl (end (eqb-true got 0 h))
+    go (inr h) = inr h
+
+-- nothing is read
+start_open : (l : LogState) → (l.stage ≡ fresh) × (l.lines ≡ 0) × (l.held ≡ []) → decided l ≡ false
+start_open l e =
+    subst⁻¹ (λ (s : rules.Stage). decided_by s l.lines (length l.held) ≡ false) e.0
+    (subst⁻¹ (λ (k : ℕ). decided_by fresh k (length l.held) ≡ false) e.1
+    (subst⁻¹ (λ (h : List ℕ). decided_by fresh 0 (length h) ≡ false) e.2 refl))
+
+pub start_going : (before old : Option (List ℕ)) (l : LogState) → (l.stage ≡ fresh) × (l.lines ≡ 0) × (l.held ≡ [])
+    → Consumes before before [] → Appends old old [] → Going before before old old l
+start_going before old l e read wrote = record {
+  pieces = [];
+  texts = [];
+  turns = none e;
+  read = read;
+  wrote = wrote;
+  all = tt;
+  more = start_open l e;
+}
+
+module _ {before after old new : Option (List ℕ)} {l : LogState} (g : Going before after old new l) where
+  -- the turns ran out
+  pub ran_out : PumpFailed before after old new
+  ran_out = record {
+    pieces = g.pieces;
+    texts = g.texts;
+    log = l;
+    turns = g.turns;
+    read = g.read;
+    count = length g.texts;
+    no_end = whole old new g.texts g.wrote;
   }
 
-  pub one_more : s₁.more ≡ true → (s : Step) (line' : List ℕ) → Pumped (n - 1) s₁.log line₁ s line' → Pumped n l line s line'
-  one_more e s line' later = record {
-    pieces = piece_of t ∷ later.pieces;
-    texts = answers_of t ++ later.texts;
-    end = later.end;
-    turns = another some t e later.turns;
-    fed = piece (record { log = s₁.log; count = s₁.count }) (answered_by t) later.fed;
-    good = later.good;
+  now_read : (after' : Option (List ℕ)) (p : List ℕ) → Consumes after after' p → Consumes before after' (joined (g.pieces ++ (p ∷ [])))
+  now_read after' p read =
+      subst (Consumes before after') (sym (joined_more g.pieces p)) (Consumes-trans before after after' (joined g.pieces) p g.read read)
+
+  module _ {after' new' : Option (List ℕ)} {l' : LogState} where
+    -- a turn more, after which something is still to be read
+    module _ {got : ℕ} {buffer : List ℕ} (t : Turned after after' new new' l l' got buffer) where
+      turns : Turns (g.pieces ++ (take got buffer ∷ [])) (g.texts ++ take t.count t.out') l'
+      turns = another t.count g.turns g.all g.more (omega (arith, t.size, length-take got buffer)) t.fed
+
+      wrote : Appends old new' (g.texts ++ take t.count t.out')
+      wrote = Appends-trans old new new' g.texts (take t.count t.out') g.wrote t.wrote
+
+      pub goes_on : (eqb got 0 || decided l') ≡ false → Going before after' old new' l'
+      goes_on e = record {
+        pieces = g.pieces ++ (take got buffer ∷ []);
+        texts = g.texts ++ take t.count t.out';
+        turns = turns;
+        read = now_read after' (take got buffer) t.read;
+        wrote = wrote;
+        all = all_read_more g.pieces (take got buffer) g.all (omega (arith, eqb-false got 0 (neither (eqb got 0) (decided l') e).0, t.size, length-take got buffer));
+        more = (neither (eqb got 0) (decided l') e).1;
+      }
+
+      -- and the last one
+      pub pumped : (eqb got 0 || decided l') ≡ true → Pumped before after' old new' l'
+      pumped e = record {
+        pieces = g.pieces ++ (take got buffer ∷ []);
+        texts = g.texts ++ take t.count t.out';
+        turns = turns;
+        read = now_read after' (take got buffer) t.read;
+        wrote = wrote;
+        over = over_of after' l' got t.end e;
+        ends_so = λ all. go all (one_of (eqb got 0) (decided l') e);
+      }
+        where
+          go : AllRead (g.pieces ++ (take got buffer ∷ [])) → (eqb got 0 ≡ true) ⊎ (decided l' ≡ true) → decided l' ≡ true
+          go all (inl h) = absurd (omega (arith, last_read g.pieces (take got buffer) all, eqb-true got 0 h, length-take got buffer))
+          go all (inr h) = h
+
+    -- a turn in which a read or a write failed
+    pub stops : Stopped after after' new new' l l' → PumpFailed before after' old new'
+    stops (no_read kept same) = record {
+      pieces = g.pieces;
+      texts = g.texts;
+      log = l;
+      turns = g.turns;
+      read = Consumes-kept before after after' (joined g.pieces) g.read kept;
+      count = length g.texts;
+      no_end = whole old new' g.texts (Appends-kept old new new' g.texts g.wrote same);
+    }
+    stops (no_write got count buffer out out' size read fed part) = record {
+      pieces = g.pieces ++ (take got buffer ∷ []);
+      texts = g.texts ++ take count out';
+      log = l';
+      turns = another count g.turns g.all g.more (omega (arith, size, length-take got buffer)) fed;
+      read = now_read after' (take got buffer) read;
+      count = length g.texts + part.count;
+      no_end = begun old new new' g.texts (take count out') part.count g.wrote part.wrote;
+    }
+
+-- the log has ended, or it is decided
+module _ {before after old new : Option (List ℕ)} {l : LogState} (g : Pumped before after old new l) {r : ℕ} {out out' : List ℕ} (end : Finished l r out out') where
+  abbrev left : List ℕ → List ℕ
+  left rest = rest_of l.stage l.lines l.held rest
+
+  ends : take r out' ≡ left []
+  ends = front out (left []) out' r end.wrote end.room
+
+  all : g.texts ++ left [] ≡ output_of (joined g.pieces)
+  all = sym (turns_output g.turns []) ∙ ap output_of (append-nil (joined g.pieces))
+
+  pub ran : {new' : Option (List ℕ)} → Appends new new' (take r out') → ProgramRan before after old new'
+  ran {new'} wrote = record {
+    pieces = g.pieces;
+    texts = g.texts;
+    log = l;
+    turns = g.turns;
+    read = g.read;
+    over = g.over;
+    ends_so = g.ends_so;
+    output =
+        subst (Appends old new') all
+        (Appends-trans old new new' g.texts (left []) g.wrote (subst (Appends new new') ends wrote));
+    whatever_follows = λ e rest.
+        turns_output g.turns rest ∙ (ap (λ (x : List ℕ). g.texts ++ x) (settled.same l rest (turns_good g.turns) e) ∙ all);
   }
 
--- ---- the last turn
+  pub end_cut : {new' : Option (List ℕ)} → Begun new new' (take r out') → ProgramFailed before after old new'
+  end_cut {new'} part = at_end new l g part.count begins (Appends-trans old new new' g.texts (take part.count (left [])) g.wrote begins)
+    where
+      begins : Appends new new' (take part.count (left []))
+      begins = subst (λ (x : List ℕ). Appends new new' (take part.count x)) ends part.wrote
 
--- a read that did not fail and did not tell the end gave bytes
-gave_bytes : (got : ℤ) → is_end got ≡ false → lt_z got (pos 0) ≡ false → lt_z (pos 0) got ≡ true
-gave_bytes (pos k) more f = lt-ltb 0 k (omega (arith, eqb-false k 0 more))
-gave_bytes (negsuc k) more f = absurd (false_true (sym f))
-
--- a step that, told of its write, neither goes on nor has failed: neither did it before
-stops : (l : Log) (n : ℕ) (more failed written : Bool) → (after (record { log = l; count = n; more = more; failed = failed }) written).more ≡ false
-    → (after (record { log = l; count = n; more = more; failed = failed }) written).failed ≡ false → (more ≡ false) × (failed ≡ false)
-stops l n more true written m f = absurd (false_true (sym f))
-stops l n more false false m f = absurd (false_true (sym f))
-stops l n true false true m f = absurd (false_true (sym m))
-stops l n false false true m f = (refl, refl)
-
--- a turn that is the last, though it has not failed and read has not told the end, comes to a log that is decided
-decided_by : {l : Log} {buffer line line' out out' : List ℕ} {s : Step} (t : Turned l buffer s line line' out out') → s.more ≡ false
-    → s.failed ≡ false → is_end t.got ≡ false → decided s.log ≡ true
-decided_by t e f g =
-    let p = t.step in
-    let d = decided p.log in
-    let stopped = stops p.log p.count p.more p.failed t.written (ap (λ (x : Step). x.more) (sym t.turned) ∙ e)
-    (ap (λ (x : Step). x.failed) (sym t.turned) ∙ f) in
-    let gave = gave_bytes t.got g (sym t.answered.failed ∙ stopped.1) in
-    subst⁻¹ (λ (x : Step). decided x.log ≡ true) t.turned
-    (not-false d (sym (ap (λ (b : Bool). b && not d) gave) ∙ (sym t.answered.more ∙ stopped.0)))
-
-pub decided_then : {n : ℕ} {l : Log} {line line' texts : List ℕ} {ps : List (List ℕ)} {end : Bool} {s : Step} → Turns n l line ps texts end s line'
-    → s.failed ≡ false → end ≡ false → decided s.log ≡ true
-decided_then ran_out f g = absurd (false_true (sym f))
-decided_then (last some t e) f g = decided_by t e f g
-decided_then (another some t e later) f g = decided_then later f g
+-- the whole output is written, where the log is known
+pub whole_output : (before after old new : Option (List ℕ)) → ProgramRan before after old new
+    → IfSome before (λ log. Appends old new (output_of log))
+whole_output None after old new r = tt
+whole_output (Some xs) None old new r = absurd r.read
+whole_output (Some xs) (Some ys) old new r = subst (λ (x : List ℕ). Appends old new (output_of x)) (sym r.read) (go r.over)
+  where
+    go : (ys ≡ []) ⊎ (decided r.log ≡ true) → Appends old new (output_of (joined r.pieces ++ ys))
+    go (inl e) = subst⁻¹ (λ (y : List ℕ). Appends old new (output_of (joined r.pieces ++ y))) e
+        (subst⁻¹ (λ (x : List ℕ). Appends old new (output_of x)) (append-nil (joined r.pieces)) r.output)
+    go (inr e) = subst⁻¹ (Appends old new) (r.whatever_follows e ys) r.output

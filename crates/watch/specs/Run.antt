@@ -1,63 +1,68 @@
 -- The whole program: one turn after the other, and then the end of the log.
-use Rattle.std.specs.Prelude.{◌-◌, ◌<◌, ◌≤◌, ℕ, eqb, negsuc, pos, ℤ, length, take, Bool, false, true, List, [], ◌++◌, ◌∷◌, ◌≡◌}
-use Rattle.log_finish.specs.Theorems.{Feeds}
+use Rattle.std.specs.Prelude.{◌<◌, ◌≤◌, ⊤, ℕ, length, take, ◌⊎◌, Option, false, true, List, [], ◌++◌, ◌∷◌, ◌≡◌}
+use Rattle.std.specs.Io.KnownBytes.{Appends, Consumes, IsAtEnd}
 use Rattle.log_rules.specs.Answers.{fresh}
 use Rattle.log_rules.specs.Lines.{joined}
-use Rattle.log_rules.specs.Output.{output_of}
-use Rattle.log_state.specs.Feed.{Good, stage_of}
-use Rattle.log_state.specs.declared.Log.{Log}
-use Rattle.watch.specs.Turn.{clamp_len, Turned}
-use Rattle.watch.specs.declared.Step.{Step}
+use Rattle.log_rules.specs.Output.{output_of, rest_of}
+use Rattle.watch_log.specs.Feed.{FedFrom, LogState, decided}
+use Rattle.watch.specs.Turn.{piece_bytes}
 
--- read, into a buffer that is not empty, answers 0 at the end of the input
-abbrev pub is_end : ℤ → Bool
-is_end (pos k) = eqb k 0
-is_end (negsuc k) = false
+-- every piece has a byte: each turn has read something
+abbrev pub AllRead : List (List ℕ) → Type 0
+AllRead [] = ⊤
+AllRead (p ∷ ps) = (0 < length p) × AllRead ps
 
--- the most turns that are made: u64::MAX
-abbrev pub turn_limit : ℕ
-turn_limit = 18446744073709551615
+-- The turns of the program: the pieces that it has read, their answers, joined, and the log that they come to. A piece is read only where
+-- each turn before has read something and the log is not decided: a turn that reads nothing is the last.
+pub data Turns : List (List ℕ) → List ℕ → LogState → Type 0 where
+  none : {l : LogState} → (l.stage ≡ fresh) × (l.lines ≡ 0) × (l.held ≡ []) → Turns [] [] l
+  another : {l l' : LogState} {p out out' texts : List ℕ} {ps : List (List ℕ)} (count : ℕ) → Turns ps texts l → AllRead ps
+      → decided l ≡ false → length p ≤ piece_bytes → FedFrom l.stage l.lines l.held p l' count 0 out out'
+      → Turns (ps ++ (p ∷ [])) (texts ++ take count out') l'
 
--- the piece that a turn has answered, and its answers, which `one_piece` hands to write
-abbrev pub piece_of : {l : Log} {buffer line line' out out' : List ℕ} {s : Step} → Turned l buffer s line line' out out' → List ℕ
-piece_of {buffer = buffer} t = take (clamp_len t.got (length buffer)) buffer
+-- the log has ended, or it is decided
+abbrev pub IsOver : Option (List ℕ) → LogState → Type 0
+IsOver after l = IsAtEnd after ⊎ (decided l ≡ true)
 
-abbrev pub answers_of : {l : Log} {buffer line line' out out' : List ℕ} {s : Step} → Turned l buffer s line line' out out' → List ℕ
-answers_of {out' = out'} {s = s} t = take s.count out'
-
--- The turns of the program, at most n, from a log on, with the buffer of the line that is held: the pieces, their answers, joined, whether
--- the last turn's `got` told the end of the input, and what the last turn came to. A turn is followed by another exactly if it says `more`;
--- that turns run out is a failure. That each turn is a call of `one_piece` is read off `pump`.
-pub data Turns : ℕ → Log → List ℕ → List (List ℕ) → List ℕ → Bool → Step → List ℕ → Type 0 where
-  ran_out : {l : Log} {line : List ℕ} → Turns 0 l line [] [] false (record { log = l; count = 0; more = false; failed = true }) line
-  last : {n : ℕ} {l : Log} {buffer line line' out out' : List ℕ} {s : Step} → 0 < n → (t : Turned l buffer s line line' out out')
-      → s.more ≡ false → Turns n l line (piece_of t ∷ []) (answers_of t) (is_end t.got) s line'
-  another : {n : ℕ} {l : Log} {buffer line line₁ line' out out₁ texts : List ℕ} {s₁ s : Step} {ps : List (List ℕ)} {end : Bool} → 0 < n
-      → (t : Turned l buffer s₁ line line₁ out out₁) → s₁.more ≡ true → Turns (n - 1) s₁.log line₁ ps texts end s line'
-      → Turns n l line (piece_of t ∷ ps) (answers_of t ++ texts) end s line'
-
--- all turns: the log that they come to is the one that was fed their pieces
-pub record Pumped (n : ℕ) (l : Log) (line : List ℕ) (s : Step) (line' : List ℕ) : Type 0 where
+-- All turns (`before` .. `new` as in Turn.antt), where nothing failed: the reader gave the pieces, the log was fed them, and their answers are
+-- written. That is so of a reader and a writer whose bytes are not known, too. No more turns are made where the last read nothing, or
+-- where the log is decided.
+pub record Pumped (before after old new : Option (List ℕ)) (log : LogState) : Type 0 where
   pub pieces : List (List ℕ)
   pub texts : List ℕ
-  pub end : Bool
-  pub turns : Turns n l line pieces texts end s line'
-  pub fed : Feeds l line pieces texts s.log line'
-  pub good : Good s.log line'
+  pub turns : Turns pieces texts log
+  pub read : Consumes before after (joined pieces)
+  pub wrote : Appends old new texts
+  pub over : IsOver after log
+  pub ends_so : AllRead pieces → decided log ≡ true
 
--- The program up to its last write, which `main` makes, of the first `count` bytes of `out`. Unless something failed, the answers of all turns
--- and then these bytes are the output of the pieces, and, if the input has not ended, of everything that begins with them. Where something
--- failed, there are no such bytes. That the pieces are the input's bytes, and that bytes handed to write come out, is said nowhere.
-pub record ProgramRan (s : Step) (out : List ℕ) : Type 0 where
-  pub first : Log
-  pub start : (stage_of first ≡ fresh) × (first.lines ≡ 0) × (first.len ≡ 0)
-  pub line : List ℕ
-  pub line' : List ℕ
-  pub before : Step
-  pub pumped : Pumped turn_limit first line before line'
-  pub failed : s.failed ≡ before.failed
-  pub output : s.failed ≡ false → pumped.texts ++ take s.count out ≡ output_of (joined pumped.pieces)
-  pub whatever_follows :
-      s.failed ≡ false → pumped.end ≡ false → (rest : List ℕ) → pumped.texts ++ take s.count out ≡ output_of (joined pumped.pieces ++ rest)
-  pub no_end : s.failed ≡ true → s.count ≡ 0
-  pub room : s.count ≤ length out
+-- and where a read or a write failed: a beginning of the answers of the pieces is written, and nothing else
+pub record PumpFailed (before after old new : Option (List ℕ)) : Type 0 where
+  pub pieces : List (List ℕ)
+  pub texts : List ℕ
+  pub log : LogState
+  pub turns : Turns pieces texts log
+  pub read : Consumes before after (joined pieces)
+  pub count : ℕ
+  pub no_end : Appends old new (take count texts)
+
+-- The program where nothing failed: the reader gave the pieces, and the output of the pieces was written. Where the log is decided, that is the
+-- output of everything that begins with them.
+pub record ProgramRan (before after old new : Option (List ℕ)) : Type 0 where
+  pub pieces : List (List ℕ)
+  pub texts : List ℕ
+  pub log : LogState
+  pub turns : Turns pieces texts log
+  pub read : Consumes before after (joined pieces)
+  pub over : IsOver after log
+  pub ends_so : AllRead pieces → decided log ≡ true
+  pub output : Appends old new (output_of (joined pieces))
+  pub whatever_follows : decided log ≡ true → (rest : List ℕ) → output_of (joined pieces ++ rest) ≡ output_of (joined pieces)
+
+-- And where something failed: in a turn, so that no end line is written; or at the end, in the last write, where all turns are made and their
+-- answers written (the writer held `mid` then), and a beginning of what is written at the end.
+pub data ProgramFailed (before after old new : Option (List ℕ)) : Type 0 where
+  in_turn : PumpFailed before after old new → ProgramFailed before after old new
+  at_end : (mid : Option (List ℕ)) (log : LogState) (all : Pumped before after old mid log) (n : ℕ)
+      → Appends mid new (take n (rest_of log.stage log.lines log.held []))
+      → Appends old new (all.texts ++ take n (rest_of log.stage log.lines log.held [])) → ProgramFailed before after old new

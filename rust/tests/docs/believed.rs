@@ -9,68 +9,39 @@ use std::collections::BTreeSet;
 
 /// Files of `specs/` that need not be believed: contracts between functions of the code, which the contracts of the public operations do not
 /// mention.
-const INNER: [(&str, &str); 13] = [
-    ("log_end", "Ends"),
-    ("log_lines", "Lines"),
-    ("log_ring", "Run"),
-    ("log_table", "Run"),
-    ("log_table_end", "Slots"),
-    ("log_tree", "Run"),
-    ("table_columns", "Columns"),
-    ("table_start", "Fixed"),
-    ("ring_check", "Told"),
-    ("tree_check", "Told"),
-    ("ring_driver", "Ran"),
-    ("ring_walk", "Tests"),
-    ("ring_walk", "Walked"),
-];
+const INNER: [(&str, &str); 2] = [("log_answers", "Ends"), ("log_answers", "Slots")];
 
-/// Crates whose code need not be believed: it is called by the public operations, and proved; four are test programs.
-const INNER_CODE: [&str; 31] = [
-    "log_end",
-    "log_lines",
-    "log_ring",
-    "log_table",
-    "log_table_end",
-    "log_text",
-    "log_tree",
+/// Crates whose code need not be believed: it is called by the public operations, and proved; five are test programs and what they share.
+const INNER_CODE: [&str; 8] = [
+    "columns",
+    "log_answers",
     "panel_calls",
-    "panel_fields",
-    "panel_marks",
-    "panel_steps",
     "ring_calls",
-    "ring_driver",
-    "ring_fields",
-    "ring_forms",
-    "ring_messages",
-    "ring_start",
-    "ring_steps",
-    "ring_token",
-    "ring_walk",
+    "step_forms",
     "table_calls",
-    "table_columns",
-    "table_fields",
-    "table_start",
-    "table_steps",
-    "tree_acks",
+    "tell",
     "tree_calls",
-    "tree_fields",
-    "tree_forms",
-    "tree_messages",
-    "tree_steps",
 ];
 
 fn spec(name: &str, file: &str) -> String {
     format!("crates/{name}/specs/{file}.antt")
 }
 
-/// The code of a crate.
-fn code(name: &str) -> String {
-    let program = format!("crates/{name}/src/main.rt");
-    match top().join(&program).exists() {
-        true => program,
-        false => format!("crates/{name}/src/lib.rt"),
-    }
+/// The files of a crate's code that declare something.
+fn code(name: &str) -> Vec<String> {
+    let paths = files(name, "src").into_iter().map(|path| {
+        let path = path.strip_prefix(top()).expect("a file of the repository");
+        path.to_str().expect("a path in UTF-8").to_owned()
+    });
+    paths.filter(|path| !is_empty(path)).collect()
+}
+
+/// Whether a file of code declares nothing of its own: comments, attributes, modules and what they hand on.
+fn is_empty(path: &str) -> bool {
+    let starts = ["//", "#![", "mod ", "pub mod ", "pub use "];
+    read(path)
+        .lines()
+        .all(|line| line.is_empty() || starts.iter().any(|start| line.starts_with(start)))
 }
 
 /// `crate: File, File; crate: File` with the files of specs, or `crate` alone, its code.
@@ -81,7 +52,7 @@ fn paths(cell: &str) -> Vec<String> {
             Some((name, files)) => {
                 found.extend(list(files).iter().map(|file| spec(name.trim(), file)));
             }
-            None => found.push(code(part.trim())),
+            None => found.extend(code(part.trim())),
         }
     }
     found
@@ -110,9 +81,7 @@ fn there() -> BTreeSet<String> {
             let path = path.strip_prefix(top()).expect("a file of the repository");
             let path = path.to_str().expect("a path in UTF-8").to_owned();
             let is_code = path.ends_with(".rt");
-            let says_nothing = |line: &str| line.starts_with("//") || line.starts_with("#![");
-            let is_empty = read(&path).lines().all(says_nothing);
-            if !(path.ends_with("/Lib.antt") || (is_code && is_empty)) {
+            if !(path.ends_with("/Lib.antt") || (is_code && is_empty(&path))) {
                 found.insert(path);
             }
         }
@@ -123,7 +92,7 @@ fn there() -> BTreeSet<String> {
 fn inner() -> BTreeSet<String> {
     let specs = INNER.iter().map(|(name, file)| spec(name, file));
     specs
-        .chain(INNER_CODE.iter().map(|name| code(name)))
+        .chain(INNER_CODE.iter().flat_map(|name| code(name)))
         .collect()
 }
 
@@ -131,6 +100,7 @@ fn inner() -> BTreeSet<String> {
 fn imports(text: &str) -> BTreeSet<String> {
     let crates = crates();
     let import = |line: &str| {
+        let line = line.trim_start();
         let line = line.strip_prefix("ghost ").unwrap_or(line);
         let rest = line.strip_prefix("use ")?;
         if let Some((name, what)) = rest.split_once("::") {
@@ -143,10 +113,10 @@ fn imports(text: &str) -> BTreeSet<String> {
         let file = &rest[..end.unwrap_or(rest.len())];
         crates.contains(owner).then(|| match file {
             "declared" => code(owner),
-            _ => spec(owner, file),
+            _ => vec![spec(owner, file)],
         })
     };
-    text.lines().filter_map(import).collect()
+    text.lines().filter_map(import).flatten().collect()
 }
 
 /// The files that are neither in the page's table nor inner.
@@ -196,7 +166,15 @@ fn used(page: &str) -> BTreeSet<String> {
         let text = read(&path);
         found.extend(modules(&text));
         let owners = text.lines().filter_map(owner).map(str::to_owned);
-        found.extend(owners.filter(|other| !crates.contains(other) && other != "crate"));
+        // A program names its own modules without `crate`.
+        let is_own = |other: &str| {
+            let module = format!("mod {other};");
+            text.lines()
+                .any(|line| line.trim_start_matches("pub ") == module)
+        };
+        found.extend(
+            owners.filter(|other| !crates.contains(other) && other != "crate" && !is_own(other)),
+        );
         let name = path.split('/').nth(1).expect("a crate");
         let others = dependencies(name).into_iter();
         found.extend(others.filter(|other| !crates.contains(other)));
@@ -262,13 +240,13 @@ fn page_of(files: &BTreeSet<String>) -> String {
 fn a_row_that_vanished_is_found() {
     let all = &there() - &inner();
     assert_eq!(left_out(&page_of(&all)), BTreeSet::new());
-    for path in ["crates/runs/specs/Runs.antt", "crates/ring/src/lib.rt"] {
+    for path in ["crates/runs/specs/Runs.antt", "crates/signed/src/lib.rt"] {
         let one = BTreeSet::from([path.to_owned()]);
         assert_eq!(left_out(&page_of(&(&all - &one))), one);
     }
     let page = page_of(&all)
-        + "\n`Pumped` (crates/watch/specs/Run.antt), `Ran` (crates/ring_driver/specs/Ran.antt)\n";
-    assert_eq!(named_outside(&page), ["Ran"]);
+        + "\n`ProgramRan` (crates/watch/specs/Run.antt), `Short` (crates/log_answers/specs/Ends.antt)\n";
+    assert_eq!(named_outside(&page), ["Short"]);
 }
 
 #[test]
@@ -282,13 +260,13 @@ fn what_is_told_of_the_toolchain_is_read() {
 
 #[test]
 fn imports_are_found() {
-    let text = "use Rattle.ring.specs.View.{state}\nghost use Rattle.refusal.specs.declared.{A};\nuse ring_check::Rest;\n\
-                use ring_check::refused;\nuse tree_check::{is_free, Rest};\nuse log_text::{put_answer, put_item};\nuse Rattle.std.specs.Prelude.{c}\nuse lib.Dec.{eqb}\nuse lib.ListN as l\n-- use lib.No.{x}\n";
+    let text = "use Rattle.ring.specs.View.{state}\nghost use Rattle.refusal.specs.declared.{A};\nuse signed::Rest;\n\
+                use signed::refused;\nuse flag_bytes::{is_free, Rest};\nuse decimal::{put_answer, put_item};\nuse Rattle.std.specs.Prelude.{c}\nuse lib.Dec.{eqb}\nuse lib.ListN as l\n-- use lib.No.{x}\n";
     let files = [
+        "flag_bytes/src/lib.rt",
         "refusal/src/lib.rt",
         "ring/specs/View.antt",
-        "ring_check/src/lib.rt",
-        "tree_check/src/lib.rt",
+        "signed/src/lib.rt",
     ];
     let found: Vec<String> = imports(text).into_iter().collect();
     assert_eq!(found, files.map(|file| format!("crates/{file}")));

@@ -121,7 +121,7 @@ impl File {
         self.tops.contains(name)
     }
 
-    /// A part of logic is declared in its record alone; what stands further in in code is declared by itself too.
+    /// A field is declared in its record alone; a case of a data type, and what stands further in in code, is declared by itself too.
     fn add(&mut self, owner: Option<&str>, name: &str, is_top: bool) {
         if is_top {
             self.tops.insert(name.to_owned());
@@ -135,6 +135,7 @@ impl File {
     /// Declarations are `record NAME ..`, `data NAME ..` and `NAME : ..`; those further in than a record or data type are its parts.
     fn logic(&mut self, text: &str) {
         let mut owner: Option<(usize, String)> = None;
+        let mut is_data = false;
         for line in text.lines().filter(|line| !line.trim().is_empty()) {
             let indent = line.len() - line.trim_start().len();
             if owner.as_ref().is_some_and(|(outer, _)| indent <= *outer) {
@@ -145,14 +146,15 @@ impl File {
                 .skip_while(|word| ["pub", "abbrev", "unfoldable"].contains(word))
                 .collect();
             match words.as_slice() {
-                ["record" | "data", name, ..] => {
+                [kind @ ("record" | "data"), name, ..] => {
                     self.add(None, name, true);
                     self.parts.entry((*name).to_owned()).or_default();
                     owner = Some((indent, (*name).to_owned()));
+                    is_data = *kind == "data";
                 }
                 [name, ":", ..] => {
                     let record = owner.as_ref().map(|(_, name)| name.clone());
-                    self.add(record.as_deref(), name, record.is_none());
+                    self.add(record.as_deref(), name, record.is_none() || is_data);
                 }
                 _ => (),
             }
@@ -166,11 +168,11 @@ impl File {
             let further_in = line.starts_with("    ");
             let words: Vec<&str> = line
                 .split(|c: char| !(c.is_alphanumeric() || c == '_'))
-                .filter(|word| !["", "pub", "extern", "C"].contains(word))
+                .filter(|word| !["", "pub", "crate", "extern", "C"].contains(word))
                 .collect();
             match words.as_slice() {
                 ["impl", name] => owner = (*name).to_owned(),
-                ["struct" | "enum", name] => {
+                ["struct" | "enum" | "trait", name, ..] => {
                     self.add(Some(crate_name), name, true);
                     owner = (*name).to_owned();
                 }

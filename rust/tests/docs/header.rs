@@ -31,7 +31,7 @@ fn constant(owner: &str, name: &str) -> u64 {
         .trim_end_matches(';');
     let other = value.strip_prefix("refusal::");
     other.map_or_else(
-        || value.parse().expect(name),
+        || value.replace('_', "").parse().expect(name),
         |other| constant("refusal", other),
     )
 }
@@ -46,12 +46,29 @@ pub fn arms(owner: &str, of: &str) -> Vec<(String, u64)> {
     code.lines().filter_map(arm).collect()
 }
 
-/// The kinds of a detector's steps, `NUMBER => NAME(..),`.
-pub fn kinds(owner: &str) -> Vec<(String, u64)> {
-    let code = read(format!("crates/{owner}/src/lib.rt"));
+/// The answer of a request that is accepted, `Ok(()) => NUMBER,` of the proved function `code`.
+pub fn accepted() -> Vec<(String, u64)> {
+    let code = read("crates/refusal/src/lib.rt");
     let arm = |line: &str| {
-        let (number, call) = line.trim().split_once(" => ")?;
-        Some((call.split('(').next()?.to_owned(), number.parse().ok()?))
+        line.trim()
+            .strip_prefix("Ok(()) => ")?
+            .strip_suffix(',')?
+            .parse()
+            .ok()
+    };
+    let numbers = code.lines().filter_map(arm);
+    numbers
+        .map(|number| ("Accepted".to_owned(), number))
+        .collect()
+}
+
+/// The kinds of a detector's steps, `NUMBER => Ok(Request::NAME ..),` of its rules' crate.
+pub fn kinds(owner: &str) -> Vec<(String, u64)> {
+    let code = read(format!("crates/{owner}/src/request.rt"));
+    let arm = |line: &str| {
+        let (number, request) = line.trim().split_once(" => Ok(Request::")?;
+        let name = request.split(|c: char| !c.is_alphanumeric()).next()?;
+        Some((name.to_lowercase(), number.parse().ok()?))
     };
     code.lines().filter_map(arm).collect()
 }
@@ -115,11 +132,7 @@ fn proved() -> BTreeMap<String, u64> {
     ]
     .map(|(name, number)| (name.to_owned(), number))
     .into();
-    proved.extend(
-        arms("refusal", "Verdict::")
-            .iter()
-            .map(|(name, k)| (upper(name), *k)),
-    );
+    proved.extend(accepted().iter().map(|(name, k)| (upper(name), *k)));
     let refused = |(name, number): (String, u64)| (format!("REFUSED_{}", upper(&name)), number);
     proved.extend(arms("refusal", "Refusal::").into_iter().map(refused));
     proved.extend(
@@ -127,7 +140,7 @@ fn proved() -> BTreeMap<String, u64> {
             .iter()
             .map(|(name, k)| (upper(name), *k)),
     );
-    for (name, kind) in [kinds("ring_steps"), kinds("tree_steps")].concat() {
+    for (name, kind) in [kinds("ring_rules"), kinds("tree_rules")].concat() {
         let before = proved.insert(name.to_uppercase(), kind);
         assert!(before.is_none_or(|before| before == kind), "{name}");
     }

@@ -23,6 +23,7 @@ impl Imports {
 
     /// `use Rattle.crate.specs.File.{a, b as c}` or `use Rattle.crate.specs.File as f`.
     fn add(&mut self, line: &str) -> Option<()> {
+        let line = line.trim_start();
         let line = line.strip_prefix("ghost ").unwrap_or(line);
         let rest = line.trim_end_matches(';').strip_prefix("use Rattle.")?;
         let (owner, rest) = rest.split_once(".specs.")?;

@@ -1,7 +1,7 @@
 //! What README says of the library is the header's: every name of it, the kinds of steps, the answers of the calls and of the driver, and two
 //! numbers.
 
-use crate::header::{arms, kinds, told, upper};
+use crate::header::{accepted, arms, kinds, told, upper};
 use crate::repository::{list, lost_phrases, read, section, tables};
 use second::bounds::answers;
 use std::collections::{BTreeMap, BTreeSet};
@@ -218,8 +218,8 @@ fn an_invented_name_of_the_library_is_found() {
 #[test]
 fn the_kinds_are_the_headers() {
     let (ring, tree) = (kinds_told(&readme(), "Ring"), kinds_told(&readme(), "Tree"));
-    assert_eq!(ring, kinds("ring_steps"));
-    assert_eq!(tree, kinds("tree_steps"));
+    assert_eq!(ring, kinds("ring_rules"));
+    assert_eq!(tree, kinds("tree_rules"));
     let panel = panel_kinds_told(&readme());
     let numbers: Vec<u64> = panel.iter().map(|(_, kind)| *kind).collect();
     assert_eq!(numbers, [1, 2, 3, 4, 5, 6]);
@@ -250,26 +250,26 @@ fn another_word_of_a_panel_is_found() {
 #[test]
 fn another_kind_is_found() {
     let page = |rows: &str| format!("\n## Steps\n\n| Kind | Ring | Rule |\n|---|---|---|\n{rows}");
-    let mut rows: String = kinds("ring_steps")
+    let mut rows: String = kinds("ring_rules")
         .iter()
         .map(|(word, kind)| format!("| {kind} | {word} i | a |\n"))
         .collect();
-    assert_eq!(kinds_told(&page(&rows), "Ring"), kinds("ring_steps"));
+    assert_eq!(kinds_told(&page(&rows), "Ring"), kinds("ring_rules"));
     assert_ne!(
         kinds_told(&page(&rows.replace("pass", "leave")), "Ring"),
-        kinds("ring_steps")
+        kinds("ring_rules")
     );
     assert_ne!(
         kinds_told(&page(&rows.replace("| 5 ", "| 4 ")), "Ring"),
-        kinds("ring_steps")
+        kinds("ring_rules")
     );
     rows.push_str("| 7 | stop | a |\n");
-    assert_ne!(kinds_told(&page(&rows), "Ring"), kinds("ring_steps"));
+    assert_ne!(kinds_told(&page(&rows), "Ring"), kinds("ring_rules"));
 }
 
 #[test]
 fn the_answers_are_the_headers() {
-    let proved = [arms("refusal", "Verdict::"), arms("ring_rules", "Reason::")].concat();
+    let proved = [accepted(), arms("ring_rules", "Reason::")].concat();
     let told = answers_told(&readme());
     assert_eq!(told, proved);
     let header = of_enum(&header(), "muzserlik_answer");

@@ -9,7 +9,7 @@ use crate::repository::{cells, crates, files, read, tables, top};
 use std::collections::BTreeSet;
 
 /// What stands in code spans and is not declared by a crate: tools, types and words of the languages, words of a log's end line.
-const WORDS: [&str; 17] = [
+const WORDS: [&str; 18] = [
     "ar",
     "boards",
     "cargo",
@@ -21,6 +21,7 @@ const WORDS: [&str; 17] = [
     "memset",
     "muzserlik_.._fields",
     "proofs/",
+    "Result",
     "requires",
     "rt",
     "specs/",
@@ -223,7 +224,7 @@ fn an_invented_name_is_found() {
 #[test]
 fn an_edit_stands_after_its_crate() {
     let page =
-        "`log_state`'s `held_count_kept`, `log_tree`'s `held_count_kept`, `log_state`'s `invented`";
+        "`watch_log`'s `held_count_kept`, `log_lines`'s `held_count_kept`, `watch_log`'s `invented`";
     assert_eq!(undeclared(page), ["held_count_kept", "invented"]);
 }
 
@@ -241,20 +242,20 @@ fn a_span_that_is_no_name_is_found() {
 fn a_name_stands_in_its_place() {
     let run = "crates/watch/specs/Run.antt";
     for page in [
-        format!("`Ran` ({run})"),
-        format!("`Ran`, `Pumped` ({run}): turns"),
-        format!("`Pumped` and\n`Ran` ({run})"),
-        format!("(`Ran`, {run})"),
-        format!("`Ran` in {run}"),
-        format!("`Ran` (what came of it, see {run})"),
-        "`Turned` (crates/watch/specs/Turn.antt); `Ran` (Run.antt)".to_owned(),
+        format!("`Walked` ({run})"),
+        format!("`Walked`, `ProgramRan` ({run}): turns"),
+        format!("`ProgramRan` and\n`Walked` ({run})"),
+        format!("(`Walked`, {run})"),
+        format!("`Walked` in {run}"),
+        format!("`Walked` (what came of it, see {run})"),
+        "`Turned` (crates/watch/specs/Turn.antt); `Walked` (Run.antt)".to_owned(),
     ] {
         assert_eq!(undeclared(&page).len(), 1, "{page}");
     }
     for page in [
-        format!("`Pumped` ({run}); `Turned` (Turn.antt)"),
-        "`Ran` (crates/ring_driver)".to_owned(),
-        "`feed`, `finish` (crates/log_feed, crates/log_finish)".to_owned(),
+        format!("`ProgramRan` ({run}); `Turned` (Turn.antt)"),
+        "`Walked` (crates/ring)".to_owned(),
+        "`put_answer`, `feed` (crates/log_answers, crates/watch_log)".to_owned(),
     ] {
         assert_eq!(undeclared(&page), Vec::<String>::new());
     }

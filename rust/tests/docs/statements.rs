@@ -99,12 +99,12 @@ fn speaks(text: &str, name: &str, statement: &Id) -> bool {
         .any(|type_| words(conclusion(type_)).any(is_it))
 }
 
-/// What the clauses `ensures` say; with `all`, the `requires` too.
+/// What the clauses `ensures` and the ghost items of traits and types say; with `all`, the `requires` too.
 fn contracts(text: &str, all: bool) -> String {
     let kinds: &[&str] = if all {
-        &["ensures", "requires"]
+        &["ensures", "ghost", "requires"]
     } else {
-        &["ensures"]
+        &["ensures", "ghost"]
     };
     clauses(text, kinds)
 }

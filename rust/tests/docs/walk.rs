@@ -2,30 +2,31 @@
 //! text of the code: each call that the check makes is followed; three of the functions have a loop, each runs once, and the walk's alone is over
 //! the nodes.
 
-use crate::repository::{dependencies, read};
+use crate::repository::{dependencies, files, read, top};
 use std::collections::BTreeMap;
 
 const CHECK: &str = "ring::is_sound";
-const WALK: &str = "ring_walk::walk";
+const WALK: &str = "ring::walk";
 
-/// How the walk's loop begins, how long it goes on, and its step.
-const WALK_LOOP: [&str; 3] = ["let mut i = n;", "while 0 < i {", "i -= 1;"];
-/// The functions with loops, each with the same of its one loop.
-const LOOPS: [(&str, [&str; 3]); 3] = [
-    (
-        "color::white_from",
-        [
-            "let mut at = n / 8;",
-            "while at < COLOR_BYTES {",
-            "at += 1;",
-        ],
-    ),
-    (
-        "ring_check::unused",
-        ["let mut i = n;", "while i < RING_NODES {", "i += 1;"],
-    ),
+/// How the walk's loop begins.
+const WALK_LOOP: &str = "for node in (0..self.n).rev() {";
+/// The functions with loops, each with the beginning of its one loop: the places that are no nodes, and the bytes of their colors, are looked at
+/// after the walk.
+const LOOPS: [(&str, &str); 3] = [
+    ("color::are_zero", "bytes.iter().all(|byte| "),
+    ("ring::is_empty_from_n", "(self.n..RING_NODES).all(|node| "),
     (WALK, WALK_LOOP),
 ];
+
+/// Words that go over something.
+const LOOPING: [&str; 14] = [
+    "while", "for", "loop", "all", "any", "map", "fold", "filter", "find", "position", "sum",
+    "count", "for_each", "max",
+];
+/// What is called of the language, and calls nothing of ours.
+const OF_STD: [&str; 6] = ["all", "iter", "rev", "unsigned_abs", "u64::from", "from"];
+/// The file that hands the check on to a trait.
+const HANDED_ON: &str = "src/request.rt";
 
 /// The code of each crate that the check can reach, without comments.
 type Code = BTreeMap<String, String>;
@@ -37,9 +38,17 @@ fn code() -> Code {
     let mut names = vec!["ring".to_owned()];
     while let Some(name) = names.pop() {
         names.extend(dependencies(&name));
-        let text = read(format!("crates/{name}/src/lib.rt"));
-        let line = |line: &str| line.split("//").next().unwrap_or_default().to_owned() + "\n";
-        found.insert(name, text.lines().map(line).collect());
+        let paths = files(&name, "src").into_iter();
+        let read_whole = paths.filter(|path| !path.ends_with(HANDED_ON));
+        let line = |line: &str| {
+            let code = line.split("//").next().unwrap_or_default();
+            code.to_owned() + "\n"
+        };
+        let text: String = read_whole
+            .map(|path| read(path.strip_prefix(top()).expect("a file of the repository")))
+            .map(|text| text.lines().map(line).collect::<String>())
+            .collect();
+        found.insert(name, text);
     }
     found
 }
@@ -49,8 +58,7 @@ fn words(text: &str) -> impl Iterator<Item = &str> {
 }
 
 fn loops(body: &str) -> usize {
-    let is_loop = |word: &&str| ["while", "for", "loop"].contains(word);
-    words(body).filter(is_loop).count()
+    words(body).filter(|word| LOOPING.contains(word)).count()
 }
 
 /// What follows a function's parameters and contract, to its end; `lines` begins with the function.
@@ -62,7 +70,7 @@ fn body(lines: &[&str]) -> String {
     text.split_once("{\n").expect("a body").1.to_owned()
 }
 
-/// The bodies of all functions; a function that is not read, or another of the same name, is a fault.
+/// The bodies of all functions; one that is not read, or another of the same name, is a fault.
 fn bodies(code: &Code, faults: &mut Vec<String>) -> Bodies {
     let mut found = Bodies::new();
     for (home, code) in code {
@@ -71,12 +79,16 @@ fn bodies(code: &Code, faults: &mut Vec<String>) -> Bodies {
             let start = line.trim_start();
             let start = start.strip_prefix("pub ").unwrap_or(start);
             if let Some(rest) = start.strip_prefix("fn ") {
+                // What a trait or one of its implementations declares stands under the type's name in the text.
                 let name = rest.split(['(', '<']).next().expect("a name");
                 let name = format!("{home}::{name}");
-                if found.insert(name.clone(), body(&lines[k..])).is_some() {
-                    faults.push(format!("{name} is there twice"));
+                if !rest.trim_end().ends_with(';') && has_body(&lines[k..]) {
+                    let twice = found.insert(name.clone(), body(&lines[k..])).is_some();
+                    if twice && home == "ring" {
+                        faults.push(format!("{name} is there twice"));
+                    }
                 }
-            } else if words(start).any(|word| ["fn", "mod"].contains(&word)) {
+            } else if words(start).any(|word| word == "fn") {
                 faults.push(format!("{home} has functions that are not read: {line}"));
             }
         }
@@ -84,27 +96,36 @@ fn bodies(code: &Code, faults: &mut Vec<String>) -> Bodies {
     found
 }
 
+/// Whether a function has a body, and not a contract alone, as in a trait.
+fn has_body(lines: &[&str]) -> bool {
+    let indent = lines[0].len() - lines[0].trim_start().len();
+    let last = " ".repeat(indent) + "}";
+    let more = lines[1..].iter();
+    let mut ends = more.take_while(|line| !line.trim_start().starts_with("fn "));
+    ends.any(|line| *line == last)
+}
+
 /// The calls in a text of a crate, by the functions' whole names; one that is not known is as it is written.
-fn calls(text: &str, home: &str, code: &Code, bodies: &Bodies) -> Vec<String> {
+fn calls(text: &str, home: &str, bodies: &Bodies) -> Vec<String> {
     let is_of_path = |c: char| c.is_alphanumeric() || "_:.".contains(c);
     let before = text.match_indices('(').map(|(at, _)| &text[..at]);
     let paths = before.map(|text| &text[text.trim_end_matches(is_of_path).len()..]);
     let named = |path: &str| {
-        let own = format!("{home}::{}", path.trim_start_matches("crate::"));
-        let mut used = code[home].lines().filter_map(|line| {
-            let name = line.strip_prefix("use ")?.strip_suffix(';')?;
-            name.ends_with(&format!("::{path}")).then_some(name)
-        });
+        let last = path.rsplit('.').next().unwrap_or(path);
+        let own = format!("{home}::{}", last.trim_start_matches("crate::"));
         let known = |name: &str| bodies.contains_key(name).then(|| name.to_owned());
-        let found = known(path).or(known(&own)).or(used.find_map(known));
-        found.unwrap_or(path.to_owned())
+        known(last).or(known(&own)).unwrap_or(last.to_owned())
     };
-    paths.filter(|path| !path.is_empty()).map(named).collect()
+    let keywords = ["if", "match", "in", "return"];
+    paths
+        .filter(|path| !path.is_empty() && !keywords.contains(path))
+        .map(named)
+        .filter(|name| !OF_STD.contains(&name.as_str()))
+        .collect()
 }
 
 /// The functions that the check reaches, and how often each runs, a loop's calls counted once.
 struct Runs<'a> {
-    code: &'a Code,
     bodies: &'a Bodies,
     counts: BTreeMap<String, usize>,
     faults: Vec<String>,
@@ -129,7 +150,7 @@ impl Runs<'_> {
 
     fn calls_in(&self, name: &str, text: &str) -> Vec<String> {
         let (home, _) = name.split_once("::").expect("a crate and a name");
-        calls(text, home, self.code, self.bodies)
+        calls(text, home, self.bodies)
     }
 
     fn has_loop(&self, name: &str) -> bool {
@@ -144,14 +165,13 @@ impl Runs<'_> {
             self.faults.push(format!("loops in {found:?}"));
             return;
         }
-        for (name, parts) in LOOPS {
+        for (name, start) in LOOPS {
             let body = &self.bodies[name];
-            let once = |part: &str| body.matches(part).count() == 1;
-            if !parts.iter().all(|part| once(part)) || loops(body) != 1 {
+            if body.matches(start).count() != 1 || loops(body) != 1 {
                 self.faults.push(format!("{name} has another loop"));
                 return;
             }
-            let turn = turn(body, parts[1]);
+            let (_, turn) = body.split_once(start).expect("the loop");
             let mut inside = self.calls_in(name, turn).into_iter();
             if self.counts[name] != 1 || inside.any(|other| self.has_loop(&other)) {
                 self.faults.push(format!("{name} runs more than once"));
@@ -160,25 +180,23 @@ impl Runs<'_> {
     }
 }
 
-/// What is done in each turn of a loop that goes on while `test`.
-fn turn<'a>(body: &'a str, test: &str) -> &'a str {
-    let (_, rest) = body.split_once(test).expect("the loop");
-    rest.split("\n    }\n").next().expect("its end")
-}
-
 /// What is wrong of the walk's turns: each looks at the node that it has come to and no other, and goes on to the next.
 fn of_walk(body: &str) -> Vec<String> {
-    let [_, test, step] = WALK_LOOP;
-    let rest = turn(body, test).replacen(step, "", 1);
+    let (_, rest) = body.split_once(WALK_LOOP).expect("the loop");
+    let turn = rest.split("\n        }\n").next().expect("its end");
     let mut faults = Vec::new();
-    for (look, node) in [("[", "i]"), ("is_black(", "color, i)")] {
-        let mut places = rest.split(look).skip(1);
+    for (look, node) in [("[", "node]"), ("is_black(", "&self.color, node)")] {
+        let mut places = turn.split(look).skip(1);
         if places.any(|place| !place.starts_with(node)) {
             faults.push(format!("{WALK} looks at another place: {look}"));
         }
     }
-    let leaves = words(&rest).any(|word| ["break", "continue", "return", "let"].contains(&word));
-    if leaves || rest.lines().any(|line| line.trim_start().starts_with("i ")) {
+    let leaves = words(turn).any(|word| ["break", "continue", "return", "let"].contains(&word));
+    if leaves
+        || turn
+            .lines()
+            .any(|line| line.trim_start().starts_with("node "))
+    {
         faults.push(format!("{WALK} goes on otherwise than by its step"));
     }
     faults
@@ -188,7 +206,6 @@ fn faults(code: &Code) -> Vec<String> {
     let mut faults = Vec::new();
     let bodies = bodies(code, &mut faults);
     let mut runs = Runs {
-        code,
         bodies: &bodies,
         counts: BTreeMap::new(),
         faults,
@@ -208,70 +225,63 @@ fn one_loop_visits_the_nodes() {
     assert_eq!(faults(&code()), [""; 0]);
 }
 
-/// The code with another text in the place of one.
-fn changed(home: &str, old: &str, new: &str) -> Code {
+/// The ring's code with another text in the place of one.
+fn changed(old: &str, new: &str) -> Code {
     let mut code = code();
-    let text = code.get_mut(home).expect(home);
-    assert_eq!(text.matches(old).count(), 1, "{home}: {old}");
+    let text = code.get_mut("ring").expect("it");
+    assert_eq!(text.matches(old).count(), 1, "{old}");
     *text = text.replacen(old, new, 1);
     code
 }
 
-const CALL: &str = "ring_walk::walk(n, pos, active, color, sent, received, pending)";
+const CALL: &str = "let seen = self.walk();\n";
 
 #[test]
 fn another_visit_is_found() {
-    let walk = format!("    let w = {CALL};\n");
-    let function = |text: &str| format!("\nfn other{text}\n{{\n    {CALL}\n}}\n");
+    let function = |text: &str| format!("\nfn other{text}\n{{\n    self.walk()\n}}\n");
     for (after, elsewhere) in [
         ("for k in 0..n { sum += sent[k]; }", String::new()),
         ("loop { k += 1; }", String::new()),
         ("while k < n { k += 1; }", String::new()),
-        ("let all = sum_to(sent, n);", String::new()),
-        ("let all = crate::sum_to(sent, n);", String::new()),
         (
-            "let b = count_black(*color);",
-            "\nuse color::count_black;\n".into(),
-        ),
-        (
-            "let b = c(*color);",
-            "\nuse color::count_black as c;\n".into(),
-        ),
-        ("let b = ring_walk::count_black(*color);", String::new()),
-        (
-            "let again = is_sound(r, active, color, sent, received, pending);",
+            "let all = columns::sum_to(&self.sent, self.n);",
             String::new(),
         ),
+        ("let all: u32 = self.sent.iter().sum();", String::new()),
+        ("let b = color::count_black(&self.color);", String::new()),
+        (
+            "let b = c(&self.color);",
+            "\nuse color::count_black as c;\n".into(),
+        ),
+        ("let again = self.is_sound();", String::new()),
         ("let again = other(n);", function("(n: usize) -> Seen")),
         ("let again = r.other();", function("(self) -> Seen")),
         (
             "let again = Seen::other(n);",
             function("(n: usize) -> Seen"),
         ),
-        ("", "\nfn near(n: usize)\n{\n}\n".into()),
+        ("", "\nfn is_near(n: usize)\n{\n}\n".into()),
         ("", "\npub(crate) fn other(n: usize)\n{\n}\n".into()),
-        ("", "\nmod other;\n".into()),
     ] {
-        let mut code = changed("ring_check", &walk, &format!("{walk}    {after}\n"));
-        code.get_mut("ring_check").expect("it").push_str(&elsewhere);
+        let mut code = changed(CALL, &format!("{CALL}        {after}\n"));
+        code.get_mut("ring").expect("it").push_str(&elsewhere);
         assert!(!faults(&code).is_empty(), "{after} {elsewhere}");
     }
 }
 
 #[test]
 fn another_run_of_the_walk_is_found() {
-    let unused = "    let n = r.n;\n    let mut ok = true;\n";
-    let in_unused = changed("ring_check", unused, &format!("{unused}    {CALL};\n"));
-    let mut twice = changed("ring_check", CALL, "seen(n, pos)");
-    let text = twice.get_mut("ring_check").expect("it");
-    *text = text.replacen("ring_walk::flows(w)", "ring_walk::flows(seen(n, pos))", 1);
-    text.push_str(&format!(
-        "\nfn seen(n: usize, pos: usize) -> Seen\n{{\n    {CALL}\n}}\n"
-    ));
-    let white = "ok & color::white_from(color, n)";
-    let mut in_a_loop = changed("ring_check", white, "ok");
-    let text = in_a_loop.get_mut("ring_check").expect("it");
-    *text = text.replacen("ok = ok & (", "ok = color::white_from(color, n) & (", 1);
+    let call = "self.is_empty_from_n() && ";
+    let in_unused = changed(call, &format!("self.walk().white && {call}"));
+    let mut twice = changed(CALL, "let seen = self.seen();\n");
+    let text = twice.get_mut("ring").expect("it");
+    *text = text.replacen("if !seen.flows()", "if !self.seen().flows()", 1);
+    text.push_str("\nfn seen(self) -> Seen\n{\n    self.walk()\n}\n");
+    let white = "!self.active[node]\n";
+    let in_a_loop = changed(
+        white,
+        "color::white_from(&self.color, node) && !self.active[node]\n",
+    );
     for (k, code) in [in_unused, twice, in_a_loop].iter().enumerate() {
         assert!(!faults(code).is_empty(), "text {k}");
     }
@@ -280,25 +290,36 @@ fn another_run_of_the_walk_is_found() {
 #[test]
 fn another_way_of_the_walk_is_found() {
     for (old, new) in [
-        ("sent[i]", "sent[n - 1 - i]"),
-        ("received[i]", "received[n - 1 - i]"),
-        ("pending[i]", "pending[n - 1 - i]"),
-        ("active[i]", "active[n - 1 - i]"),
-        ("is_black(color, i)", "is_black(color, n - 1 - i)"),
-        ("        i -= 1;\n", "        i -= 1;\n        i -= 1;\n"),
         (
-            "        i -= 1;\n",
-            "        i -= 1;\n        let i = n - 1 - i;\n",
+            "from(self.sent[node]);",
+            "from(self.sent[self.n - 1 - node]);",
         ),
-        ("i <= pos {\n", "i <= pos {\n            break;\n"),
         (
-            "if i <= pos {",
-            "if pos < i { break; }\n        if i <= pos {",
+            "from(self.received[node]);",
+            "from(self.received[self.n - 1 - node]);",
         ),
-        ("let mut i = n;", "let mut i = 95;"),
-        ("while 0 < i {", "while 1 < i {"),
+        (
+            "from(self.pending[node]);",
+            "from(self.pending[self.n - 1 - node]);",
+        ),
+        (
+            "passive &= !self.active[node]",
+            "passive &= !self.active[self.n - 1 - node]",
+        ),
+        (
+            "white &= !color::is_black(&self.color, node)",
+            "white &= !color::is_black(&self.color, self.n - 1 - node)",
+        ),
+        ("if self.pos < node {\n", "if self.pos < node {\n break;\n"),
+        (
+            "if self.pos < node {",
+            "if node < self.pos { break; }\n            if self.pos < node {",
+        ),
+        ("in (0..self.n).rev() {", "in 0..self.n {"),
+        ("in (0..self.n).rev() {", "in (0..RING_NODES).rev() {"),
+        ("in (0..self.n).rev() {", "in (1..self.n).rev() {"),
     ] {
-        let code = changed("ring_walk", old, new);
+        let code = changed(old, new);
         assert!(!faults(&code).is_empty(), "{new}");
     }
 }

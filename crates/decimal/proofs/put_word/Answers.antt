@@ -1,41 +1,19 @@
-use mathlib.Core.Path.{refl, sym, ◌∙◌}
+use mathlib.Core.List.{◌++◌}
+use mathlib.Core.Path.{◌≡◌, refl, ap, ◌∙◌}
+use Prim.Native.Nat.{ℕ, ◌+◌, ◌-◌}
 use native.Mathlib.Omega.{arith}
-use native.Mathlib.Nat.{add-zero}
-use borrow.Author.Rules.{rules}
-use lib.ListN.{length-set}
-use Rattle.decimal.proofs.Put.{put_more, put_end}
+use lib.ListN.{length, take, drop}
+use lib.Seq.{drop-drop}
+use Rattle.decimal.proofs.Put.{put_parts}
 use Rattle.decimal.proofs.put_word.Goals as goal
-
-pub loop-j-init : goal.loop-j-init
-loop-j-init c = (omega arith, refl, rw add-zero)
-
-pub bounds-w-j : goal.bounds-w-j
-bounds-w-j c = omega arith
-
-pub overflow_add-buf : goal.overflow_add-buf
-overflow_add-buf c = omega arith
-
-pub bounds-buf-at : goal.bounds-buf-at
-bounds-buf-at c = omega arith
-
-pub overflow_add-j : goal.overflow_add-j
-overflow_add-j c = omega arith
-
-pub loop-j-smaller : goal.loop-j-smaller
-loop-j-smaller c = omega arith
-
-pub loop-j-preserved : goal.loop-j-preserved
-loop-j-preserved c =
-    let a = c.args in
-    (omega arith, simp length-set c.loop-j.invariant.1, put_more c.loop-j.buf a.at a.w.now c.loop-j.j (search rules) ∙ c.loop-j.invariant.2)
-
-pub overflow_add-result : goal.overflow_add-result
-overflow_add-result c = omega arith
-
-pub shape_of-buf : goal.shape_of-buf
-shape_of-buf c = omega arith
 
 pub returns : goal.returns
 returns c =
     let a = c.args in
-    (omega arith, sym (put_end c.loop-j.buf a.at a.w.now c.loop-j.j (search rules)) ∙ c.loop-j.invariant.2)
+    let w = a.w.now in
+    let b = a.buf.now in
+    let few : a.at + (a.at + length w - a.at) ≡ a.at + length w = omega arith in (
+      refl,
+      rw c.copy_from_slice.ensures.after
+          (ap (λ l. take a.at b ++ (w ++ l)) (drop-drop (a.at + length w - a.at) a.at b ∙ ap (λ (n : ℕ). drop n b) few) ∙ put_parts w b a.at c.requires),
+    )

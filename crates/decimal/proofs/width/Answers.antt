@@ -1,33 +1,29 @@
-use Rattle.decimal.proofs.Decimal.{width_is, width_most}
-use mathlib.Core.Path.{refl, sym}
-use Prim.Native.Nat.{◌^◌, ◌≤◌}
+use mathlib.Core.Path.{◌≡◌, ap, subst}
+use Prim.Native.Nat.{ℕ, ◌+◌, ◌*◌, ◌/◌, ◌^◌, ◌≤◌}
+use native.Mathlib.Nat.{mul-le-mul_right}
 use native.Mathlib.Omega.{arith}
-use borrow.Author.Rules.{rules}
-use Rattle.decimal.proofs.Decimal.{decimal_some, decimal_long, power_fits, power_more}
+use lib.ListN.{length}
+use Rattle.decimal.specs.Text.{decimal}
+use Rattle.decimal.proofs.Decimal.{decimal_small, length_large, power_more}
 use Rattle.decimal.proofs.width.Goals as goal
 
-pub loop-over-init : goal.loop-over-init
-loop-over-init c = (omega (arith, decimal_some c.args.n), omega arith, omega arith, refl)
+pub returns-then-rest-lt10 : goal.returns-then-rest-lt10
+returns-then-rest-lt10 c =
+    let one : length (decimal c.loop-count.rest) ≡ 1 = ap length (decimal_small c.loop-count.rest c.if-rest-lt10.true) in
+    omega (arith, c.loop-count.invariant.0)
 
-pub returns-then-w-eq19 : goal.returns-then-w-eq19
-returns-then-w-eq19 c =
-    let p : 10 ^ c.loop-over.w ≤ c.args.n = omega arith in
-    sym (width_most c.args.n c.loop-over.w c.if-w-eq19.true p (search rules))
-
-pub overflow_add-w : goal.overflow_add-w
-overflow_add-w c = omega arith
-
-pub overflow_mul-over : goal.overflow_mul-over
-overflow_mul-over c = omega (arith, power_fits c.loop-over.w (omega arith))
-
-pub loop-over-smaller : goal.loop-over-smaller
-loop-over-smaller c = omega arith
-
-pub loop-over-preserved : goal.loop-over-preserved
-loop-over-preserved c =
-    let p : 10 ^ c.loop-over.w ≤ c.args.n = omega arith in
-    (omega (arith, decimal_long c.loop-over.w c.args.n p), omega arith, omega arith, omega (arith, power_more c.loop-over.w))
+pub loop-count-preserved : goal.loop-count-preserved
+loop-count-preserved c =
+    let l = c.loop-count in
+    let tens : l.rest / 10 * 10 ≤ l.rest = omega arith in
+    let fewer : l.rest / 10 * 10 * 10 ^ l.count ≤ l.rest * 10 ^ l.count = mul-le-mul_right (10 ^ l.count) tens in
+    let turned : l.rest / 10 * 10 ^ (l.count + 1) ≡ l.rest / 10 * 10 * 10 ^ l.count = rw (power_more l.count) (grind arith) in
+    (omega (arith, length_large l.rest c.if-rest-lt10.false, l.invariant.0), omega (arith, l.invariant.1))
 
 pub returns : goal.returns
 returns c =
-    width_is c.args.n c.loop-over.w (omega arith) (omega arith) (omega arith)
+    let l = c.loop-count in
+    let all : l.count ≡ 20 = omega (arith, l.auto.count-end) in
+    let most : l.rest * 10 ^ 20 ≤ c.args.n * 10 = subst (λ (k : ℕ). l.rest * 10 ^ k ≤ c.args.n * 10) all l.invariant.1 in
+    let few : length (decimal l.rest) ≡ 1 = ap length (decimal_small l.rest (omega arith)) in
+    omega (arith, l.invariant.0)

@@ -1,11 +1,8 @@
 use mathlib.Core.Path.{◌≡◌}
-use Prim.Native.Nat.{◌-◌, ◌^◌, ◌≤◌}
+use Prim.Native.Nat.{◌+◌, ◌*◌, ◌^◌, ◌≤◌}
 use lib.ListN.{length}
 use Rattle.decimal.specs.Text.{decimal}
 use Rattle.decimal.proofs.width.Given as goal
 
-abbrev pub invariant-loop-over : goal.invariant-loop-over
-invariant-loop-over l = (l.w ≤ length (decimal l.n)) × (1 ≤ l.w) × (l.w ≤ 19) × (l.over ≡ 10 ^ l.w)
-
-abbrev pub decreases-loop-over : goal.decreases-loop-over
-decreases-loop-over l = 20 - l.w
+abbrev pub invariant-loop-count : goal.invariant-loop-count
+invariant-loop-count l = (length (decimal l.n) + 1 ≡ l.count + length (decimal l.rest)) × (l.rest * 10 ^ l.count ≤ l.n * 10)

@@ -1,40 +1,24 @@
-use mathlib.Core.Path.{◌≡◌, ap}
-use native.Mathlib.Omega.{arith}
-use Prim.Native.Nat.{ℕ}
-use Rattle.laws.proofs.Sums.{sum_next, sum_none}
-use Rattle.laws.specs.Sums.{sum_to}
-use Rattle.tree_text.specs.Text.{share, length_of}
+use Rattle.std.proofs.Common.{arith, rules, tests}
+use Rattle.std.proofs.lemmas.Iterator.{YieldsList-from_map, YieldsList-from_range}
+use Rattle.std.proofs.lemmas.Iterator.Consumers.{fits_by_from_yields_list, sum_by_from_yields_List}
+use Rattle.std.specs.List.{range_with_len}
+use Rattle.tree_text.specs.Text.{length_of, share}
+use Rattle.tree.proofs.Ranges.{sum_range}
+use Rattle.tree_writer.proofs.Shares.{shares_small}
 use Rattle.tree_writer.proofs.text_length.Goals as goal
 
-pub loop-i-init : goal.loop-i-init
-loop-i-init c = omega (arith, sum_none (share c.args.e.now))
-
-pub share_of-sum-requires : goal.share_of-sum-requires
-share_of-sum-requires c = omega arith
-
-pub overflow_add-sum : goal.overflow_add-sum
-overflow_add-sum c = omega arith
-
-pub overflow_add-i : goal.overflow_add-i
-overflow_add-i c = omega arith
-
-pub loop-i-smaller : goal.loop-i-smaller
-loop-i-smaller c = omega arith
-
-pub loop-i-preserved : goal.loop-i-preserved
-loop-i-preserved c = omega (arith, sum_next c.loop-i.i (share c.args.e.now))
-
-pub returns-then-sum-eq0 : goal.returns-then-sum-eq0
-unfolding length_of
-returns-then-sum-eq0 c =
-    let done : c.loop-i.i ≡ 16 = omega arith in
-    omega (arith, ap (λ (x : ℕ). sum_to x (share c.args.e.now)) done)
-
-pub overflow_sub-result : goal.overflow_sub-result
-overflow_sub-result c = omega arith
+pub sum-shares-requires-clause-fits : goal.sum-shares-requires-clause-fits
+sum-shares-requires-clause-fits c =
+    let e = c.args.engager.now in
+    fits_by_from_yields_list (share e) (range_with_len 0 16) c.map.result _
+    (YieldsList-from_map _ (share e) (YieldsList-from_range 0 16 16 c.map.ensures.source (omega arith)) c.map.ensures.closure (λ x r q k. search (rules, tests)))
+    (omega (arith, sum_range (share e) 16, shares_small e))
 
 pub returns : goal.returns
 unfolding length_of
 returns c =
-    let done : c.loop-i.i ≡ 16 = omega arith in
-    omega (arith, ap (λ (x : ℕ). sum_to x (share c.args.e.now)) done)
+    let e = c.args.engager.now in
+    let shares =
+    sum_by_from_yields_List (share e) (range_with_len 0 16) c.map.result _ c.sum-shares.ensures.ran
+    (YieldsList-from_map _ (share e) (YieldsList-from_range 0 16 16 c.map.ensures.source (omega arith)) c.map.ensures.closure (λ x r q k. search (rules, tests))) in
+    omega (arith, shares, sum_range (share e) 16, shares_small e)

@@ -3,15 +3,13 @@ use Rattle.update_forms.specs.Read.{step_in}
 use Rattle.update_forms.proofs.Held.{step_held, no_step_held, update_told}
 use Rattle.update_forms.proofs.update_step.Goals as goal
 
-pub returns-in-Value : goal.returns-in-Value
-returns-in-Value c =
+pub returns-in_err-update : goal.returns-in_err-update
+returns-in_err-update c =
+    let a = c.args in
+    update_told a.s.now a.at _ (c.from_residual.ensures ∙ no_step_held a.s.now a.at (sym c.opened.ensures ∙ c.in_err-update.was))
+
+pub returns : goal.returns
+returns c =
     let a = c.args in
     update_told a.s.now a.at _
-    (c.step_in.ensures
-    ∙ (ap (step_in a.s.now _) c.inner_step.ensures
-    ∙ step_held a.s.now a.at _ _ (sym c.opened-m.ensures ∙ c.in-Value.is)))
-
-pub returns-in-Wrong : goal.returns-in-Wrong
-returns-in-Wrong c =
-    let a = c.args in
-    update_told a.s.now a.at _ (no_step_held a.s.now a.at (sym c.opened-m.ensures ∙ c.in-Wrong.is))
+    (c.step_in.ensures ∙ (ap (step_in a.s.now c.in_ok-update.update) c.ring_form.ensures ∙ step_held a.s.now a.at _ _ (sym c.opened.ensures ∙ c.in_ok-update.was)))

@@ -1,9 +1,0 @@
-use native.Mathlib.Omega.{arith}
-use Rattle.log_state.proofs.Feeds.{fed_went}
-use Rattle.log_feed.proofs.go_ring.Goals as goal
-
-pub returns : goal.returns
-returns c =
-    let p = c.requires in
-    let u = c.ring_piece-f.ensures in
-    fed_went _ u.went c.hold_rest-len.ensures (u.sound, u.few) (omega (arith, p.0.places, c.hold_rest-len.auto)) p.0

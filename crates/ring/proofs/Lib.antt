@@ -1,0 +1,6 @@
+pub mod Nodes
+pub mod Tests
+pub mod Parts
+pub mod Moves
+pub mod Flags
+pub mod Handed

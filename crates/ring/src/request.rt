@@ -1,0 +1,30 @@
+// A ring answers requests, as every detector does.
+
+use crate::state::Ring;
+use detector::Detector;
+use refusal::Refusal;
+use ring_rules::Request;
+
+impl Detector for Ring {
+    type Request = Request;
+
+    ghost use Rattle.ring_rules.specs.Soundness.{sound_test};
+    ghost use Rattle.ring_rules.specs.Request.{answer_to};
+    ghost use Rattle.ring_rules.proofs.Kept.{keeps_sound, turns_back};
+
+    ghost sound_test = { sound_test };
+
+    ghost answers = { answer_to };
+
+    ghost keeps = { keeps_sound };
+
+    ghost turns = { turns_back };
+
+    fn is_sound(&self) -> bool {
+        Ring::is_sound(self)
+    }
+
+    fn apply(&mut self, request: Request) -> Result<(), Refusal> {
+        self.apply_sound(request)
+    }
+}

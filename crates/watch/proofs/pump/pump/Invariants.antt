@@ -1,0 +1,7 @@
+use Rattle.watch.proofs.Runs.{Going}
+use Rattle.watch.proofs.pump.pump.Given as goal
+
+abbrev pub invariant-loop : goal.invariant-loop
+invariant-loop g l =
+    Going (g.R.Read.remaining l.initial.reader) (g.R.Read.remaining l.reader) (g.W.Write.contents l.initial.writer)
+    (g.W.Write.contents l.writer) l.log

@@ -1,0 +1,4 @@
+pub mod Held
+pub mod Feed
+pub mod Finish
+pub mod Theorems
