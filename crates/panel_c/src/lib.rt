@@ -38,7 +38,7 @@ pub extern "C" fn muzserlik_panel_enter_fields(
     match Panel::enter(nodes, flags) {
         Ok(panel) => {
             let next = LentPanel::from(panel);
-            // Kept: no plainer, since the check takes no array of a call's result straight into what is lent.
+            // Kept: tried, and the proof of `*active = next.ring.active` did not close, straight from a call's result: the arrays are named first.
             let activity = next.ring.active;
             let colors = next.ring.color;
             let sends = next.ring.sent;

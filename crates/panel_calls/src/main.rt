@@ -10,7 +10,7 @@ use std::io;
 use std::io::Write;
 use tell::{tell, tell_number};
 
-// Kept: a step is asked for by its kind number, as `Panel::step` and C take it: one of these steps has a job word, 0, that no `JobWord` is.
+// Kept: these are the calls that C makes, whose interface needs the numbers of kinds and job words; one of them names no job, 0.
 const SEND: u8 = 1;
 
 const TAKE: u8 = 2;

@@ -33,7 +33,7 @@ pub extern "C" fn muzserlik_ring_start_fields(
         Ok(ring) => {
             let next = LentRing::from(ring);
             *n = next.n;
-            // Kept: no plainer, since the check takes no array of a call's result straight into what is lent.
+            // Kept: tried, and the proof of `*active = next.active` did not close, straight from a call's result: the arrays are named first.
             let (bytes, colors) = (next.active, next.color);
             let (sends, receipts, transit) = (next.sent, next.received, next.pending);
             *active = bytes;

@@ -10,7 +10,7 @@ use std::io::Write;
 use table::Table;
 use tell::{tell, tell_number};
 
-// Kept: a step is asked for by its kind number, as `Table::step` and C take it.
+// Kept: these are the calls that C makes, whose interface needs the numbers of kinds.
 const SEND: u8 = 1;
 
 const TAKE: u8 = 2;

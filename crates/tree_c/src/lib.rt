@@ -33,7 +33,7 @@ pub extern "C" fn muzserlik_tree_start_fields(
             let next = LentTree::from(tree);
             *n = next.n;
             *root = next.root;
-            // Kept: no plainer, since the check takes no array of a call's result straight into what is lent.
+            // Kept: tried, and the proof of `*active = next.active` did not close, straight from a call's result: the arrays are named first.
             let (bytes, engagers) = (next.active, next.engager);
             let (waited, sent, answered) = (next.unacked, next.transit, next.acks);
             *active = bytes;
@@ -172,6 +172,7 @@ pub extern "C" fn muzserlik_tree_read_fields(
 {
     match tree_reader::read(n, s) {
         Ok(found) => {
+            // Kept: as in the start above.
             let engagers = found.engager;
             *engager = engagers;
             *root = found.root;
