@@ -10,7 +10,12 @@ ghost use Rattle.flag_bytes.specs.Narrow.{kind_byte, limit_word};
 pub fn are_flags(bytes: &[u8]) -> bool
     ensures { result ≡ are_flags bytes.now }
 {
-    bytes.iter().all(|byte| *byte <= 1)
+    // Kept: a loop to the end and no `all`, which stops early, so that the compiler takes several bytes at a time; every call of C makes this test.
+    let mut all = true;
+    for byte in bytes {
+        all &= *byte <= 1;
+    }
+    all
 }
 
 // Puts the truths of a column of bytes. Kept, here and below: places are filled one by one, since `map` over an array of any length left goals on its length open.

@@ -54,13 +54,13 @@ module _ (ms : List ℕ) (k u x : ℕ) (m : Moves ms k) (h : x ≤ k + 1) where
   stored_few : Moves (set ms u x) (k + 1)
   stored_few = record { places = length-set ms u x ∙ m.places; few = λ v. few_at v (ℕ_discrete v u) }
 
-added_few : (ms : List ℕ) (k u d : ℕ) → Moves ms k → d ≤ 1 → Moves (add_at ms u d) (k + 1)
+pub added_few : (ms : List ℕ) (k u d : ℕ) → Moves ms k → d ≤ 1 → Moves (add_at ms u d) (k + 1)
 added_few ms k u d m h = stored_few ms k u (get_or ms u 0 + d) m (omega (arith, m.few u))
 
-later_few : (ms : List ℕ) (k : ℕ) → Moves ms k → Moves ms (k + 1)
+pub later_few : (ms : List ℕ) (k : ℕ) → Moves ms k → Moves ms (k + 1)
 later_few ms k m = record { places = m.places; few = λ v. omega (arith, m.few v) }
 
-cleared_few : (ms : List ℕ) (k u : ℕ) (v : Verdict) → Moves ms k → Moves (settle v (set ms u 0) ms) (k + 1)
+pub cleared_few : (ms : List ℕ) (k u : ℕ) (v : Verdict) → Moves ms k → Moves (settle v (set ms u 0) ms) (k + 1)
 cleared_few ms k u Accepted m = stored_few ms k u 0 m (omega arith)
 cleared_few ms k u (Refused e) m = later_few ms k m
 

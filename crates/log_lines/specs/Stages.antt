@@ -7,12 +7,15 @@ use Rattle.log_rules.specs.Pieces.{Moves, NoMore, OneLine, Went, has_line}
 use Rattle.refusal.specs.Answers.{verdict_from}
 use Rattle.table.specs.View.{table}
 use Rattle.table_rules.specs.Soundness.{SoundTable}
+use Rattle.table_rules.specs.Table.{Table}
 use Rattle.log_lines.specs.declared.answers.Answered.{Answered}
 use Rattle.log_lines.specs.declared.line.Line.{Line}
 use Rattle.log_lines.specs.declared.stage.Stage as code
 use Rattle.log_lines.specs.declared.stage.Stage.TheVariants as stages
 use Rattle.ring_rules.specs.Soundness as ring_sound
+use Rattle.ring_rules.specs.State as ring
 use Rattle.tree_rules.specs.Soundness as tree_sound
+use Rattle.tree_rules.specs.State as tree
 
 -- the code's stage as the definitions see it
 abbrev pub stage_of : code.Stage → Stage
@@ -29,6 +32,14 @@ SoundStage (on_ring r m) k = ring_sound.Sound r × (m ≤ k)
 SoundStage (on_tree t) k = tree_sound.Sound t
 SoundStage (on_table t ms) k = SoundTable t × Moves ms k
 SoundStage over k = Unit {0}
+
+-- what a first line begins goes on: a ring's run stays a ring's, a tree's a tree's, and a table's a table's; and a log that is over stays over
+pub data SameRun : Stage → Stage → Type 0 where
+  begins : {s' : Stage} → SameRun fresh s'
+  ring_run : {r r' : ring.State} {m m' : ℕ} → SameRun (on_ring r m) (on_ring r' m')
+  tree_run : {t t' : tree.State} → SameRun (on_tree t) (on_tree t')
+  table_run : {t t' : Table} {ms ms' : List ℕ} → SameRun (on_table t ms) (on_table t' ms')
+  no_run : SameRun over over
 
 -- line k, which begins at index `at`, is answered: s was the stage before it, and s' is the one after it
 pub record LineAnswered (s s' : Stage) (k : ℕ) (piece : List ℕ) (at : ℕ) (l : Line) : Type 0 where
@@ -58,6 +69,7 @@ pub record Fits (s : Stage) (lines : ℕ) (piece : List ℕ) (from : ℕ) (out :
 -- lines of the piece are answered, and the state is sound after them
 pub record LinesWent (s s' : Stage) (a b : Answered) (piece out out' : List ℕ) : Type 0 where
   pub went : Went s s' a.lines b.lines a.next b.next a.at b.at piece out out'
+  pub same : SameRun s s'
   pub sound : SoundStage s' b.lines
 
 abbrev pub TurnTold : Stage → Stage → Answered → List ℕ → List ℕ → List ℕ → Option Answered → Type 0
@@ -75,5 +87,6 @@ past_the_end over a piece = record { lines = a.lines; next = length piece; at = 
 -- all lines of the piece that are whole are answered
 pub record LinesAnswered (s s' : Stage) (lines : ℕ) (piece : List ℕ) (from : ℕ) (out : List ℕ) (at : ℕ) (b : Answered) (out' : List ℕ) : Type 0 where
   pub went : Went s s' lines b.lines from b.next at b.at piece out out'
+  pub same : SameRun s s'
   pub sound : SoundStage s' b.lines
   pub spent : NoMore b.lines b.next piece

@@ -9,4 +9,5 @@ mod start;
 mod state;
 mod steps;
 
+pub use marks::{all_say, firmware_said, map_said, marks_fit};
 pub use state::Panel;

@@ -38,21 +38,29 @@ impl Panel {
         if n != self.ring.n {
             return Err(Refusal::NodeCount);
         }
-        self.ring = Ring::start(n, flags)?;
+        self.ring.start_in_place(n, flags)?;
         self.recorded = Record::Empty;
         Ok(())
     }
 
+    /// A start on any panel, in place: an unsound panel is refused with 3 before all else, another number of nodes than its own with 1, flags that are
+    /// not n values from 0 to 3 with 2.
+    #[tactic(auto, unfolding(panel_rules::specs::Answers::start_of, panel_rules::specs::Answers::start_verdict))]
+    pub fn start_checked(&mut self, n: usize, flags: &[u8]) -> Result<(), Refusal>
+        ensures { handed result self.new ≡ answer_on self.old (Start n flags.now) }
+    {
+        if !self.is_sound() {
+            return Err(Refusal::Unsound);
+        }
+        self.restart(n, flags)
+    }
+
     /// A start on the panel: the next panel, or the refusal and the very panel handed in. A panel that is not sound is refused with 3, another number of
     /// nodes than its own with 1, flags that are not n values from 0 to 3 with 2.
-    #[tactic(auto, using(panel_rules::proofs::Soundness::sound_true), unfolding(panel_rules::specs::Answers::start_of, panel_rules::specs::Answers::start_verdict))]
     pub fn start(mut self, n: usize, flags: &[u8]) -> Result<Panel, Refused<Panel>>
         ensures { answer result ≡ answer_on self (Start n flags.now) }
     {
-        if !self.is_sound() {
-            return returned(self, Err(Refusal::Unsound));
-        }
-        let answer = self.restart(n, flags);
+        let answer = self.start_checked(n, flags);
         returned(self, answer)
     }
 }

@@ -81,19 +81,25 @@ impl Panel {
         if self.ring.closed {
             return Err(Refusal::Closed);
         }
-        let request = Request::try_from((kind, i, j))?;
-        self.apply_sound(request)
+        self.apply_open(Request::try_from((kind, i, j))?)
+    }
+
+    /// A step of any panel by its kind number, in place: an unsound panel is refused with 3 before all else.
+    #[tactic(auto, unfolding(panel_rules::specs::Answers::answer_of, panel_rules::specs::Answers::verdict_of))]
+    pub fn step_checked(&mut self, kind: u8, i: usize, j: usize) -> Result<(), Refusal>
+        ensures { handed result self.new ≡ answer_on self.old (step_ask kind i j) }
+    {
+        if !self.is_sound() {
+            return Err(Refusal::Unsound);
+        }
+        self.step_in_place(kind, i, j)
     }
 
     /// A step of any panel by its kind number: the next panel, or the refusal and the very panel handed in, 3 where it is not sound.
-    #[tactic(auto, using(panel_rules::proofs::Soundness::sound_true), unfolding(panel_rules::specs::Answers::answer_of, panel_rules::specs::Answers::verdict_of))]
     pub fn step(mut self, kind: u8, i: usize, j: usize) -> Result<Panel, Refused<Panel>>
         ensures { answer result ≡ answer_on self (step_ask kind i j) }
     {
-        if !self.is_sound() {
-            return returned(self, Err(Refusal::Unsound));
-        }
-        let answer = self.step_in_place(kind, i, j);
+        let answer = self.step_checked(kind, i, j);
         returned(self, answer)
     }
 }

@@ -104,7 +104,7 @@ pub extern "C" fn muzserlik_panel_is_sound_fields(
     u8::from(panel.is_sound())
 }
 
-/// A start in place: the number of its answer, 0 where it is accepted. It writes neither the number of nodes nor a mark.
+/// A start in place: the number of its answer, 0 where it is accepted. It writes neither the number of nodes nor a mark, and a refusal nothing.
 #[unsafe(no_mangle)]
 pub extern "C" fn muzserlik_panel_start_fields(
     n: usize,
@@ -143,7 +143,9 @@ pub extern "C" fn muzserlik_panel_start_fields(
         map: *map,
         recorded: *recorded,
     };
-    let answer = panel.start(nodes, flags);
+    if let Err(refusal) = panel.start(nodes, flags) {
+        return refusal.number();
+    }
     *active = panel.ring.active;
     *color = panel.ring.color;
     *sent = panel.ring.sent;
@@ -154,10 +156,10 @@ pub extern "C" fn muzserlik_panel_start_fields(
     *black = panel.ring.black;
     *closed = panel.ring.closed;
     *recorded = panel.recorded;
-    refusal::code(answer)
+    0
 }
 
-/// A step in place: the number of its answer, 0 where it is accepted.
+/// A step in place: the number of its answer, 0 where it is accepted. A refusal writes nothing.
 #[unsafe(no_mangle)]
 pub extern "C" fn muzserlik_panel_step_fields(
     n: usize,
@@ -197,7 +199,9 @@ pub extern "C" fn muzserlik_panel_step_fields(
         map: *map,
         recorded: *recorded,
     };
-    let answer = panel.step(kind, i, j);
+    if let Err(refusal) = panel.step(kind, i, j) {
+        return refusal.number();
+    }
     *active = panel.ring.active;
     *color = panel.ring.color;
     *sent = panel.ring.sent;
@@ -210,5 +214,5 @@ pub extern "C" fn muzserlik_panel_step_fields(
     *firmware = panel.firmware;
     *map = panel.map;
     *recorded = panel.recorded;
-    refusal::code(answer)
+    0
 }

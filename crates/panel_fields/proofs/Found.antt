@@ -28,6 +28,10 @@ panel_there l p e = go (panel_truths l) e
     go true h = (refl, ap or_there h)
     go false h = absurd (false_true (sym (ap is_ok h)))
 
+-- where the bytes are truths, what they say lies there
+pub truths_there : (l : LentPanel) (p : Panel) → panel_truths l ≡ true → p ≡ panel_in l → Ok p ≡ panel_found l
+truths_there l p f e = ap (λ (q : Panel). Ok q) e ∙ sym (ap (λ (b : Bool). cond b (Ok (panel_in l)) (Err Unsound)) f)
+
 module _ (l : LentPanel) (p : Panel) (there : Ok p ≡ panel_found l) where
   -- a request that is accepted, and one that is refused
   pub went_on : (a : Ask) (s : Panel) → record { verdict = Accepted; state = s } ≡ answer_on p a → AskedTo l a 0 (lent_panel_of s)

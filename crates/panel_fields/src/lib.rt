@@ -1,8 +1,8 @@
 // A panel as other languages lend it: its fields, with a byte for each truth and for the record.
 #![tactic(auto)]
 
-ghost use Rattle.std.specs.Prelude.{◌≡◌};
-ghost use Rattle.lent_panel.specs.Panel.{AskedTo};
+ghost use Rattle.std.specs.Prelude.{◌≡◌, OnErr};
+ghost use Rattle.lent_panel.specs.Panel.{AskedTo, panel_in, panel_truths, record_of};
 ghost use Rattle.panel_rules.specs.Asks.{Start, step_ask};
 ghost use Rattle.refusal.specs.Answers.{verdict_from};
 ghost use Rattle.refusal.specs.Table.{code_of};
@@ -49,62 +49,85 @@ impl From<Panel> for LentPanel {
     }
 }
 
+/// The record that a byte says: 0 empty, 1 old, and any other new.
+pub fn record_of(byte: u8) -> Record
+    ensures { result ≡ record_of byte }
+{
+    match Record::try_from(byte) {
+        Ok(record) => record,
+        Err(_) => Record::New,
+    }
+}
+
 impl LentPanel {
-    /// The panel that lies in the fields. A byte of a truth that is above 1, or a record above 2, is refused with 3.
+    /// Is each byte of a truth 0 or 1, and the record at most 2?
     #[tactic(auto, unfolding(lent_panel::specs::Panel::panel_truths))]
+    pub fn has_truths(&self) -> bool
+        ensures { result ≡ panel_truths self.now }
+    {
+        self.ring.has_truths()
+            && flag_bytes::are_flags(&self.firmware)
+            && flag_bytes::are_flags(&self.map)
+            && self.recorded <= 2
+    }
+
+    /// The panel that the fields say, whatever their bytes: of a truth's byte 1 alone is true, and a record above 2 is new.
+    #[inline(always)]
+    pub fn gathered(&self) -> Panel
+        ensures { result ≡ panel_in self.now }
+    {
+        Panel {
+            ring: self.ring.gathered(),
+            firmware: flag_bytes::truths(&self.firmware),
+            map: flag_bytes::truths(&self.map),
+            recorded: record_of(self.recorded),
+        }
+    }
+
+    /// The panel that lies in the fields. A byte of a truth that is above 1, or a record above 2, is refused with 3.
     pub fn panel(&self) -> Result<Panel, Refusal>
         ensures { result ≡ panel_found self.now }
     {
-        let ring = self.ring.ring()?;
-        if !flag_bytes::are_flags(&self.firmware) || !flag_bytes::are_flags(&self.map) {
+        if !self.has_truths() {
             return Err(Refusal::Unsound);
         }
-        let Ok(recorded) = Record::try_from(self.recorded) else {
-            return Err(Refusal::Unsound);
-        };
-        Ok(Panel {
-            ring,
-            firmware: flag_bytes::truths(&self.firmware),
-            map: flag_bytes::truths(&self.map),
-            recorded,
-        })
+        Ok(self.gathered())
     }
 
     /// Is each byte of a truth 0 or 1, the record at most 2, and the panel sound?
     pub fn is_sound(&self) -> bool
         ensures { result ≡ found_sound self.now }
     {
-        match self.panel() {
-            Ok(panel) => panel.is_sound(),
-            Err(_) => false,
-        }
+        self.has_truths() && self.gathered().is_sound()
     }
 
     /// A start in place; whatever is refused leaves the fields as they were, and no start changes the number of nodes or a mark.
     pub fn start(&mut self, nodes: usize, flags: &[u8]) -> Result<(), Refusal>
         ensures told { AskedTo self.old (Start nodes flags.now) (code_of (verdict_from result)) self.new }
         ensures kept { IsStarted self.old self.new }
+        ensures same { OnErr result (self.new ≡ self.old) }
     {
-        match self.panel()?.start(nodes, flags) {
-            Ok(next) => {
-                *self = LentPanel::from(next);
-                Ok(())
-            }
-            Err(refused) => Err(refused.refusal),
+        if !self.has_truths() {
+            return Err(Refusal::Unsound);
         }
+        let mut panel = self.gathered();
+        panel.start_checked(nodes, flags)?;
+        *self = LentPanel::from(panel);
+        Ok(())
     }
 
     /// A step by its kind number, 1 to 6, in place; whatever is refused leaves the fields as they were, and no step changes the number of nodes.
     pub fn step(&mut self, kind: usize, i: usize, j: usize) -> Result<(), Refusal>
         ensures told { AskedTo self.old (step_ask kind i j) (code_of (verdict_from result)) self.new }
         ensures nodes { self.new.ring.n ≡ self.old.ring.n }
+        ensures same { OnErr result (self.new ≡ self.old) }
     {
-        match self.panel()?.step(flag_bytes::kind_byte(kind), i, j) {
-            Ok(next) => {
-                *self = LentPanel::from(next);
-                Ok(())
-            }
-            Err(refused) => Err(refused.refusal),
+        if !self.has_truths() {
+            return Err(Refusal::Unsound);
         }
+        let mut panel = self.gathered();
+        panel.step_checked(flag_bytes::kind_byte(kind), i, j)?;
+        *self = LentPanel::from(panel);
+        Ok(())
     }
 }

@@ -1,16 +1,19 @@
 -- The driver's definition, one turn at a time. Assumes nothing.
-use Prim.Native.Nat.{◌+◌, ◌-◌, ◌<◌, suc, zero, ℕ}
-use borrow.Author.Tests.{eq-eqb, lt-ltb}
+use Prim.Native.Nat.{◌+◌, ◌-◌, ◌<◌, ◌≤◌, suc, zero, ℕ}
+use borrow.Author.Tests.{eq-eqb, lt-ltb, ltb-false, not-false}
 use mathlib.Core.Bool.{false, not, true}
 use mathlib.Core.Path.{◌∙◌, ◌≡◌, ap, refl, sym}
 use native.Mathlib.Numerals.{add-one}
 use native.Mathlib.Omega.{arith}
+use Rattle.refusal.proofs.Table.{none_holds}
+use Rattle.refusal.specs.Table.{Accepted, NoneHolds, also, first_of, none}
 use Rattle.ring_rules.proofs.Driver.{above_zero, at_zero, move_answer}
+use Rattle.ring_rules.proofs.Soundness.{sound_true}
 use Rattle.ring_rules.proofs.Theorems.{fields_unread}
 use Rattle.ring_rules.specs.Answers.{Answer, answer_of}
-use Rattle.ring_rules.specs.Driver.{Conclusive, Spent, Waiting, drive_from, may_move, move_of, stop_at}
+use Rattle.ring_rules.specs.Driver.{Conclusive, Spent, Waiting, drive_from, drive_table, may_move, move_limit, move_of, stop_at}
 use Rattle.ring_rules.specs.Rules.{Kind, Pass, Probe, conclusive, guard, may_pass, may_probe}
-use Rattle.ring_rules.specs.Soundness.{Open}
+use Rattle.ring_rules.specs.Soundness.{Open, sound_test}
 use Rattle.ring_rules.specs.State.{State, active_at}
 
 pub ends_conclusive : (k d : ℕ) (s : State) → conclusive s ≡ true → stop_at Conclusive d s ≡ drive_from k d s
@@ -62,3 +65,11 @@ module _ (s : State) (o : Open s) (e : may_move s ≡ true) where
   pass_moves ne =
       ap (λ (a : Answer). a.state)
       (ap (λ (k : Kind). answer_of s k s.pos 0) (sym (above_zero s (omega arith))) ∙ move_answer s o e)
+
+-- a driver that is not refused: the state is open, and the limit is kept
+pub may_run : (s : State) (m : ℕ) → first_of (drive_table s m) ≡ Accepted → Open s × (m ≤ move_limit)
+may_run s m e = go (none_holds (drive_table s m) e)
+  where
+    go : NoneHolds (drive_table s m) → Open s × (m ≤ move_limit)
+    go (also sound (also running (also most none))) =
+        (record { sound = sound_true s (not-false (sound_test s) sound); running = running }, ltb-false move_limit m most)

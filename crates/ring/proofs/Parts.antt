@@ -1,5 +1,5 @@
 -- The parts of the soundness test, by what is looked at. Assumes nothing.
-use Prim.Native.Nat.{◌*◌, ◌-◌, ◌<◌, ◌^◌, ◌≤◌, suc, zero, ℕ}
+use Prim.Native.Nat.{◌*◌, ◌+◌, ◌-◌, ◌<◌, ◌^◌, ◌≤◌, suc, zero, ℕ}
 use borrow.Author.Tests.{le-leb, le-ltb, lt-leb, lt-ltb}
 use lib.Dec.{eqb, ltb}
 use lib.IntN.{nat_abs, ℤ}
@@ -9,7 +9,7 @@ use mathlib.Core.List.{List}
 use mathlib.Core.Path.{◌∙◌, ◌≡◌, ap, ap₂, refl, sym}
 use Rattle.color.specs.Between.{white_between}
 use Rattle.laws.proofs.Places.{all_at, all_from}
-use Rattle.laws.proofs.Tests.{left_true, right_true, same_test}
+use Rattle.laws.proofs.Tests.{false_true, left_true, right_true, same_test}
 use native.Mathlib.Decide.{dec_lt}
 use native.Mathlib.Omega.{arith}
 use Rattle.std.specs.Prelude.{◌↔◌}
@@ -22,6 +22,27 @@ use Rattle.ring_rules.specs.State.{State, active_at, black_at, pending_at, recei
 use Rattle.signed.proofs.Parts.{mag_abs}
 
 -- ---- the places that no node uses
+
+-- b tells whether the places n to m - 1 are empty: of no place yet, and of one place more
+abbrev pub EmptyTo : ℕ → List Bool → List ℕ → List ℕ → List ℕ → ℕ → Bool → Type 0
+EmptyTo n active sent received pending m b = (b ≡ true) ↔ ((i : ℕ) → n ≤ i → i < m → empty_at active sent received pending i ≡ true)
+
+module _ (n : ℕ) (active : List Bool) (sent received pending : List ℕ) where
+  pub empty_begun : EmptyTo n active sent received pending n true
+  empty_begun = ((λ e i lo hi. absurd (omega arith)), (λ h. refl))
+
+  pub empty_more :
+      (m : ℕ) (b : Bool) → n ≤ m → EmptyTo n active sent received pending m b
+      → EmptyTo n active sent received pending (m + 1) (b && empty_at active sent received pending m)
+  empty_more m true low h = (forth, (λ f. f m low (omega arith)))
+    where
+      forth : empty_at active sent received pending m ≡ true → (i : ℕ) → n ≤ i → i < m + 1 → empty_at active sent received pending i ≡ true
+      forth e i lo hi = at (dec_lt i m)
+        where
+          at : Dec (i < m) → empty_at active sent received pending i ≡ true
+          at (yes below) = h.0 refl i lo below
+          at (no last) = let same : i ≡ m = omega arith in ap (empty_at active sent received pending) same ∙ e
+  empty_more m false low h = ((λ e. absurd (false_true e)), (λ f. h.1 (λ i lo hi. f i lo (omega arith))))
 
 -- the places n to m - 1 are empty
 unfoldable pub empty_between : ℕ → List Bool → List ℕ → List ℕ → List ℕ → ℕ → Bool

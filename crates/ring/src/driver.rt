@@ -4,7 +4,7 @@ ghost use Rattle.ring_rules.specs.Soundness.{Open};
 ghost use Rattle.refusal.specs.Answers.{verdict_from};
 ghost use Rattle.refusal.specs.Table.{first_of};
 ghost use Rattle.ring_rules.specs.Driver.{drive_from, drive_of, drive_table, may_move, move_limit, move_of};
-ghost use Rattle.ring.specs.View.{driven, driven_in_place};
+ghost use Rattle.ring.specs.View.{driven, driven_by, driven_in_place};
 
 use crate::state::Ring;
 use refusal::{Refusal, Refused};
@@ -44,8 +44,8 @@ impl Ring {
         let _ = self.apply_pass(position);
     }
 
-    // Token moves of an open state, at most `limit`: why they end, and how many they are.
-    fn run(&mut self, limit: u32) -> (Reason, u32)
+    /// Token moves of an open state, in place, at most `limit`: why they end, and how many they are.
+    pub fn run(&mut self, limit: u32) -> (Reason, u32)
         requires { Open self.old × (limit ≤ move_limit) }
         ensures { driven_in_place result self.new ≡ drive_from limit 0 self.old }
     {
@@ -83,24 +83,33 @@ impl Ring {
         Ok(())
     }
 
+    /// Token moves in place, as `drive` makes them: why they ended, and how many they are, 0 to 1,000; a refusal leaves the state.
+    #[tactic(auto, using(ring_rules::proofs::Soundness::sound_true), unfolding(ring_rules::specs::Driver::drive_of))]
+    pub fn drive_in_place(&mut self, limit: u32) -> Result<(Reason, u32), Refusal>
+        ensures { driven_by result self.new ≡ drive_of self.old limit }
+    {
+        if let Err(refusal) = self.may_drive(limit) {
+            return Err(refusal);
+        }
+        Ok(self.run(limit))
+    }
+
     /// Token moves, at most `limit`, until the round is conclusive, no token move is allowed, or the limit is spent, looked for in this order before each.
     /// A token move is a probe where node 0 has the token, and else a pass. Refused with the very state handed in: an unsound state with 3, a closed run with 4,
     /// a limit above 1,000 with 11.
-    #[tactic(auto, using(ring_rules::proofs::Soundness::sound_true), unfolding(ring_rules::specs::Driver::drive_of))]
     pub fn drive(mut self, limit: u32) -> Result<Driven, Refused<Ring>>
         ensures { driven result ≡ drive_of self limit }
     {
-        if let Err(refusal) = self.may_drive(limit) {
-            return Err(Refused {
+        match self.drive_in_place(limit) {
+            Ok((reason, moves)) => Ok(Driven {
+                reason,
+                moves,
+                ring: self,
+            }),
+            Err(refusal) => Err(Refused {
                 refusal,
                 state: self,
-            });
+            }),
         }
-        let (reason, moves) = self.run(limit);
-        Ok(Driven {
-            reason,
-            moves,
-            ring: self,
-        })
     }
 }

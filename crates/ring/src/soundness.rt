@@ -34,14 +34,17 @@ impl Ring {
 
     // Are the places from n on, which no node uses, passive and without counts?
     fn is_empty_from_n(&self) -> bool
+        requires { self.now.n ≤ 96 }
         ensures { IsTrue result ↔ ((i : ℕ) → self.now.n ≤ i → i < 96 → empty_at self.now.active self.now.sent self.now.received self.now.pending i ≡ true) }
     {
-        (self.n..RING_NODES).all(|node| {
-            !self.active[node]
-                && self.sent[node] == 0
-                && self.received[node] == 0
-                && self.pending[node] == 0
-        })
+        // Kept: a loop to the end and no `all`, which stops early, so that the compiler takes several places at a time; every call of C makes this test.
+        let mut empty = true;
+        for node in self.n..RING_NODES {
+            let counts = (self.sent[node] == 0)
+                & ((self.received[node] == 0) & (self.pending[node] == 0));
+            empty &= !self.active[node] & counts;
+        }
+        empty
     }
 
     // Are these places white too?

@@ -1,8 +1,9 @@
 // A start: a flag for each node, and the columns that they make.
-ghost use Rattle.std.specs.Prelude.{◌≡◌, ◌≤◌, leb, length};
+ghost use Rattle.std.specs.Prelude.{◌≡◌, ◌≤◌, IfOk, leb, length};
 ghost use Rattle.std.specs.List.{list_all};
-ghost use Rattle.ring_rules.specs.Start.{active_from, blank, color_from, flags_test, start_of};
-ghost use Rattle.refusal.specs.Answers.{started};
+ghost use Rattle.ring_rules.specs.Start.{active_from, blank, color_from, first_state, flags_test, start_of, start_verdict};
+ghost use Rattle.ring.specs.View.{begun};
+ghost use Rattle.refusal.specs.Answers.{handed, started, verdict_from};
 
 use crate::state::Ring;
 use refusal::{COLOR_BYTES, RING_NODES, Refusal};
@@ -50,20 +51,29 @@ fn color_from(flags: &[u8]) -> [u8; COLOR_BYTES]
     color
 }
 
+// May a ring of n nodes start with these flags?
+#[tactic(auto, unfolding(ring_rules::specs::Start::start_verdict, ring_rules::specs::Start::flags_test))]
+fn may_start(n: usize, flags: &[u8]) -> Result<(), Refusal>
+    ensures verdict { verdict_from result ≡ start_verdict n flags.now }
+    ensures nodes { IfOk result (λ done. (length flags.now ≡ n) × (n ≤ 96)) }
+{
+    if n == 0 || RING_NODES < n {
+        return Err(Refusal::NodeCount);
+    }
+    if !are_flags(flags, n) {
+        return Err(Refusal::StartFlags);
+    }
+    Ok(())
+}
+
 impl Ring {
-    /// A ring of n nodes, 1 to 96, each active where the lowest bit of its flag is 1 and black where the next is: the counts all zero, the token at node 0, its
-    /// sum 0 and black. Another number of nodes is refused with 1, another number of flags, or a flag above 3, with 2.
-    #[tactic(auto, unfolding(ring_rules::specs::Start::start_of, ring_rules::specs::Start::start_verdict, ring_rules::specs::Start::first_state, ring_rules::specs::Start::flags_test))]
-    pub fn start(n: usize, flags: &[u8]) -> Result<Ring, Refusal>
-        ensures { started blank result ≡ start_of n flags.now }
+    // The first state of n nodes, of a start that is allowed.
+    #[tactic(auto, unfolding(ring_rules::specs::Start::first_state))]
+    fn first(n: usize, flags: &[u8]) -> Ring
+        requires { (length flags.now ≡ n) × (n ≤ 96) }
+        ensures { result ≡ first_state n flags.now }
     {
-        if n == 0 || RING_NODES < n {
-            return Err(Refusal::NodeCount);
-        }
-        if !are_flags(flags, n) {
-            return Err(Refusal::StartFlags);
-        }
-        Ok(Ring {
+        Ring {
             n,
             active: active_from(flags),
             color: color_from(flags),
@@ -74,6 +84,26 @@ impl Ring {
             q: 0,
             black: true,
             closed: false,
-        })
+        }
+    }
+
+    /// A ring of n nodes, 1 to 96, each active where the lowest bit of its flag is 1 and black where the next is: the counts all zero, the token at node 0, its
+    /// sum 0 and black. Another number of nodes is refused with 1, another number of flags, or a flag above 3, with 2.
+    #[tactic(auto, unfolding(ring_rules::specs::Start::start_of))]
+    pub fn start(n: usize, flags: &[u8]) -> Result<Ring, Refusal>
+        ensures { started blank result ≡ start_of n flags.now }
+    {
+        may_start(n, flags)?;
+        Ok(Ring::first(n, flags))
+    }
+
+    /// The same start in place, whatever the ring was; a refusal leaves it.
+    #[tactic(auto, unfolding(ring_rules::specs::Start::start_of))]
+    pub fn start_in_place(&mut self, n: usize, flags: &[u8]) -> Result<(), Refusal>
+        ensures { handed result self.new ≡ begun self.old (start_of n flags.now) }
+    {
+        may_start(n, flags)?;
+        *self = Ring::first(n, flags);
+        Ok(())
     }
 }

@@ -56,15 +56,22 @@ impl Ring {
         self.apply_open(request)
     }
 
-    /// A step of any state by its kind number, 1 to 6: the next state, or the refusal and the very state handed in. An unsound state is refused with 3 before all else.
+    /// A step of any state by its kind number, in place: an unsound state is refused with 3 before all else.
     #[tactic(auto, using(ring_rules::proofs::Soundness::sound_true), unfolding(ring_rules::specs::Answers::answer_of, ring_rules::specs::Answers::verdict_of))]
+    pub fn step_checked(&mut self, kind: u8, i: usize, j: usize) -> Result<(), Refusal>
+        ensures { handed result self.new ≡ step_of self.old kind i j }
+    {
+        if !self.is_sound() {
+            return Err(Refusal::Unsound);
+        }
+        self.step_in_place(kind, i, j)
+    }
+
+    /// A step of any state by its kind number, 1 to 6: the next state, or the refusal and the very state handed in. An unsound state is refused with 3 before all else.
     pub fn step(mut self, kind: u8, i: usize, j: usize) -> Result<Ring, Refused<Ring>>
         ensures { answer result ≡ step_of self kind i j }
     {
-        if !self.is_sound() {
-            return returned(self, Err(Refusal::Unsound));
-        }
-        let answer = self.step_in_place(kind, i, j);
+        let answer = self.step_checked(kind, i, j);
         returned(self, answer)
     }
 

@@ -47,7 +47,8 @@ impl Ring {
                 sent_above = sent;
                 received_above = received;
                 passive &= !self.active[node];
-            } else {
+            }
+            if node <= self.pos {
                 white &= !color::is_black(&self.color, node);
             }
         }

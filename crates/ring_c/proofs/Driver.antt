@@ -13,3 +13,10 @@ pub driven_in :
 driven_in {l} {limit} {number} {moves} {moves'} before after inside e t k w =
     subst (λ (x : Lent). DrivenTo x limit number moves moves' (over x inside)) e
     (subst (DrivenTo before limit number moves moves') (k ∙ ap (over before) (sym w)) t)
+
+-- a refused driver leaves all of it
+pub kept_in :
+    {l : Lent} {limit number moves moves' : ℕ} (before after : Lent) → before ≡ l → DrivenTo before limit number moves moves' after → after ≡ before
+    → DrivenTo l limit number moves moves' l
+kept_in {l} {limit} {number} {moves} {moves'} before after e t k =
+    subst (λ (x : Lent). DrivenTo x limit number moves moves' x) e (subst (DrivenTo before limit number moves moves') k t)

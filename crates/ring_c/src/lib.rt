@@ -82,7 +82,7 @@ pub extern "C" fn muzserlik_ring_is_sound_fields(
     u8::from(ring.is_sound())
 }
 
-/// A step in place: the number of its answer, 0 where it is accepted.
+/// A step in place: the number of its answer, 0 where it is accepted. A refusal writes nothing.
 #[unsafe(no_mangle)]
 pub extern "C" fn muzserlik_ring_step_fields(
     n: usize,
@@ -114,7 +114,9 @@ pub extern "C" fn muzserlik_ring_step_fields(
         black: *black,
         closed: *closed,
     };
-    let answer = ring.step(kind, i, j);
+    if let Err(refusal) = ring.step(kind, i, j) {
+        return refusal.number();
+    }
     *active = ring.active;
     *color = ring.color;
     *sent = ring.sent;
@@ -124,10 +126,10 @@ pub extern "C" fn muzserlik_ring_step_fields(
     *q = ring.q;
     *black = ring.black;
     *closed = ring.closed;
-    refusal::code(answer)
+    0
 }
 
-/// The driver in place: the number of its reason or of its refusal; `moves` is how many it made.
+/// The driver in place: the number of its reason or of its refusal; `moves` is how many it made. A refusal writes nothing.
 #[unsafe(no_mangle)]
 pub extern "C" fn muzserlik_ring_drive_fields(
     n: usize,
@@ -158,13 +160,12 @@ pub extern "C" fn muzserlik_ring_drive_fields(
         black: *black,
         closed,
     };
-    let answer = ring.drive(limit);
-    *color = ring.color;
-    *pos = ring.pos;
-    *q = ring.q;
-    *black = ring.black;
-    match answer {
+    match ring.drive(limit) {
         Ok((reason, made)) => {
+            *color = ring.color;
+            *pos = ring.pos;
+            *q = ring.q;
+            *black = ring.black;
             *moves = made;
             reason.number()
         }

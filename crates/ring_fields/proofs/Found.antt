@@ -8,7 +8,7 @@ use Rattle.flag_bytes.specs.Flags.{byte_of, bytes_of}
 use Rattle.flag_bytes.specs.Narrow.{kind_byte, limit_word}
 use Rattle.lent.proofs.Ring.{kind_same, limit_same, ring_back}
 use Rattle.lent.specs.Ring.{DrivenTo, Lent, SteppedTo, lent, lent_of, state_of, truths_test}
-use Rattle.refusal.specs.Table.{Accepted, number_of}
+use Rattle.refusal.specs.Table.{Accepted, Refused, number_of}
 use Rattle.refusal.specs.declared.Refusal.{Refusal}
 use Rattle.refusal.specs.declared.Refusal.TheVariants.{Unsound}
 use Rattle.ring_rules.proofs.Fields.{unmoved}
@@ -42,6 +42,13 @@ pub stepped :
     → SteppedTo l kind i j 0 (lent_of s)
 stepped {l} {kind} {k} {i} {j} s e f h =
     let a : record { verdict = Accepted; state = s } ≡ step_of (state_of l) kind i j = h ∙ kind_same (state_of l) k kind i j e in
+    record { told = rw (f, ← a) refl; fields = rw (f, ← a) refl }
+
+pub not_stepped :
+    {l : Lent} {kind k i j : ℕ} (e : Refusal) (s : State) → k ≡ kind_byte kind → truths_test l ≡ true
+    → record { verdict = Refused e; state = s } ≡ step_of (state_of l) k i j → SteppedTo l kind i j (number_of e) l
+not_stepped {l} {kind} {k} {i} {j} r s e f h =
+    let a : record { verdict = Refused r; state = s } ≡ step_of (state_of l) kind i j = h ∙ kind_same (state_of l) k kind i j e in
     record { told = rw (f, ← a) refl; fields = rw (f, ← a) refl }
 
 -- ---- the driver

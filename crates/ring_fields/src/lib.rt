@@ -1,8 +1,8 @@
 // A ring as other languages lend it: its fields, with a byte for each truth.
 #![tactic(auto)]
 
-ghost use Rattle.std.specs.Prelude.{◌≡◌};
-ghost use Rattle.lent.specs.Ring.{SteppedTo, truths_test};
+ghost use Rattle.std.specs.Prelude.{◌≡◌, OnErr};
+ghost use Rattle.lent.specs.Ring.{SteppedTo, state_of, truths_test};
 ghost use Rattle.refusal.specs.Answers.{verdict_from};
 ghost use Rattle.refusal.specs.Table.{code_of};
 ghost use Rattle.ring_fields.specs.Fields.{found_sound, ring_in, DroveTo, IsTokenMoved};
@@ -59,22 +59,20 @@ impl From<Ring> for LentRing {
 }
 
 impl LentRing {
-    // Is each byte of a truth 0 or 1?
+    /// Is each byte of a truth 0 or 1?
     #[tactic(auto, unfolding(lent::specs::Ring::truths_test))]
-    fn has_truths(&self) -> bool
+    pub fn has_truths(&self) -> bool
         ensures { result ≡ truths_test self.now }
     {
         flag_bytes::are_flags(&self.active) && self.black <= 1 && self.closed <= 1
     }
 
-    /// The ring that lies in the fields. A byte of a truth that is above 1 is refused with 3.
-    pub fn ring(&self) -> Result<Ring, Refusal>
-        ensures { result ≡ ring_in self.now }
+    /// The ring that the fields say, whatever their bytes: 1 alone is true.
+    #[inline(always)]
+    pub fn gathered(&self) -> Ring
+        ensures { result ≡ state_of self.now }
     {
-        if !self.has_truths() {
-            return Err(Refusal::Unsound);
-        }
-        Ok(Ring {
+        Ring {
             n: self.n,
             active: flag_bytes::truths(&self.active),
             color: self.color,
@@ -85,44 +83,53 @@ impl LentRing {
             q: self.q,
             black: self.black == 1,
             closed: self.closed == 1,
-        })
+        }
+    }
+
+    /// The ring that lies in the fields. A byte of a truth that is above 1 is refused with 3.
+    pub fn ring(&self) -> Result<Ring, Refusal>
+        ensures { result ≡ ring_in self.now }
+    {
+        if !self.has_truths() {
+            return Err(Refusal::Unsound);
+        }
+        Ok(self.gathered())
     }
 
     /// Is each byte of a truth 0 or 1, and the ring sound?
     pub fn is_sound(&self) -> bool
         ensures { result ≡ found_sound self.now }
     {
-        match self.ring() {
-            Ok(ring) => ring.is_sound(),
-            Err(_) => false,
-        }
+        self.has_truths() && self.gathered().is_sound()
     }
 
     /// A step by its kind number, 1 to 6, in place; whatever is refused leaves the fields as they were.
     pub fn step(&mut self, kind: usize, i: usize, j: usize) -> Result<(), Refusal>
         ensures told { SteppedTo self.old kind i j (code_of (verdict_from result)) self.new }
         ensures nodes { self.new.n ≡ self.old.n }
+        ensures same { OnErr result (self.new ≡ self.old) }
     {
-        match self.ring()?.step(flag_bytes::kind_byte(kind), i, j) {
-            Ok(next) => {
-                *self = LentRing::from(next);
-                Ok(())
-            }
-            Err(refused) => Err(refused.refusal),
+        if !self.has_truths() {
+            return Err(Refusal::Unsound);
         }
+        let mut ring = self.gathered();
+        ring.step_checked(flag_bytes::kind_byte(kind), i, j)?;
+        *self = LentRing::from(ring);
+        Ok(())
     }
 
     /// Token moves, at most `limit`, in place: why they end, and how many they are, 0 to 1,000; a refused driver leaves the fields as they were.
     pub fn drive(&mut self, limit: usize) -> Result<(Reason, u32), Refusal>
         ensures told { DroveTo self.old limit result self.new }
         ensures kept { IsTokenMoved self.old self.new }
+        ensures same { OnErr result (self.new ≡ self.old) }
     {
-        match self.ring()?.drive(flag_bytes::limit_word(limit)) {
-            Ok(driven) => {
-                *self = LentRing::from(driven.ring);
-                Ok((driven.reason, driven.moves))
-            }
-            Err(refused) => Err(refused.refusal),
+        if !self.has_truths() {
+            return Err(Refusal::Unsound);
         }
+        let mut ring = self.gathered();
+        let made = ring.drive_in_place(flag_bytes::limit_word(limit))?;
+        *self = LentRing::from(ring);
+        Ok(made)
     }
 }

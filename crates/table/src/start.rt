@@ -8,7 +8,6 @@ ghost use Rattle.table.specs.View.{settled_to, table, Answered};
 
 use crate::state::Table;
 use refusal::{Refusal, Refused, UPDATES};
-use ring::Ring;
 
 impl Table {
     // Is n another number of nodes than the one that is fixed?
@@ -23,8 +22,7 @@ impl Table {
         requires { u < 8 }
         ensures { handed result self.new ≡ settled_to self.old u (start_of n flags.now) }
     {
-        self.rings[u] = Ring::start(n, flags)?;
-        Ok(())
+        self.rings[u].start_in_place(n, flags)
     }
 
     /// A start of update u of a sound table with n nodes, each active and black as its flag says, in place. Nothing of the update is kept.
@@ -41,15 +39,21 @@ impl Table {
         self.put_start(u, n, flags)
     }
 
-    #[tactic(auto, using(crate::proofs::Laws::unsound_by))]
+    /// A start of update u of any table with n nodes, in place: an unsound table is refused with 3 before all else.
+    pub fn start_checked(&mut self, u: usize, n: usize, flags: &[u8]) -> Result<(), Refusal>
+        ensures { Answered self.old (Start u n flags.now) (handed result self.new) }
+    {
+        if !self.is_sound() {
+            return Err(Refusal::Unsound);
+        }
+        self.start_in_place(u, n, flags)
+    }
+
     /// A start of update u with n nodes, each active and black as its flag says: the next table, or the refusal and the very table handed in.
     pub fn start(mut self, u: usize, n: usize, flags: &[u8]) -> Result<Table, Refused<Table>>
         ensures { Answered self (Start u n flags.now) (answer result) }
     {
-        if !self.is_sound() {
-            return self.returned(Err(Refusal::Unsound));
-        }
-        let told = self.start_in_place(u, n, flags);
+        let told = self.start_checked(u, n, flags);
         self.returned(told)
     }
 }

@@ -42,15 +42,21 @@ impl Table {
         self.rings[u].step_in_place(kind, i, j)
     }
 
-    #[tactic(auto, using(crate::proofs::Laws::unsound_by))]
+    /// A step of update u of any table by its kind number, in place: an unsound table is refused with 3 before all else.
+    pub fn step_checked(&mut self, u: usize, kind: u8, i: usize, j: usize) -> Result<(), Refusal>
+        ensures { Answered self.old (step_ask u kind i j) (handed result self.new) }
+    {
+        if !self.is_sound() {
+            return Err(Refusal::Unsound);
+        }
+        self.step_in_place(u, kind, i, j)
+    }
+
     /// A step of update u by its kind number: the next table, or the refusal and the very table handed in.
     pub fn step(mut self, u: usize, kind: u8, i: usize, j: usize) -> Result<Table, Refused<Table>>
         ensures { Answered self (step_ask u kind i j) (answer result) }
     {
-        if !self.is_sound() {
-            return self.returned(Err(Refusal::Unsound));
-        }
-        let told = self.step_in_place(u, kind, i, j);
+        let told = self.step_checked(u, kind, i, j);
         self.returned(told)
     }
 }

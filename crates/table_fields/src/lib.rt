@@ -2,14 +2,17 @@
 #![tactic(auto)]
 
 ghost use Rattle.std.specs.Prelude.{◌≡◌, ◌&&◌, ◌<◌};
+ghost use Rattle.lent.specs.Ring.{state_of};
 ghost use Rattle.lent.specs.Table.{AnsweredTo, fields_at, put_fields, table_in, table_truths};
 ghost use Rattle.refusal.specs.Answers.{verdict_from};
 ghost use Rattle.refusal.specs.Table.{code_of};
-ghost use Rattle.table_fields.specs.View.{LiesIn};
+ghost use Rattle.table.specs.View.{table};
+ghost use Rattle.table_fields.specs.View.{LiesIn, Puts};
 ghost use Rattle.table_rules.specs.Answers.{Start, step_ask};
 ghost use Rattle.table_rules.specs.Soundness.{sound_table_test};
 
 use refusal::{COLOR_BYTES, RING_NODES, Refusal, UPDATES};
+use ring::Ring;
 use ring_fields::LentRing;
 use std::marker::Model;
 use table::Table;
@@ -59,6 +62,33 @@ impl LentTable {
         }
     }
 
+    /// The ring that the fields of update u say, 0 to 7, whatever their bytes: 1 alone is true.
+    pub fn ring_at(&self, u: usize) -> Ring
+        requires { u < 8 }
+        ensures { result ≡ state_of (fields_at self.now u) }
+    {
+        self.place(u).gathered()
+    }
+
+    /// The table that the fields say, whatever their bytes.
+    #[tactic(auto, unfolding(lent::specs::Table::table_in))]
+    pub fn gathered(&self) -> Table
+        ensures { table result ≡ table_in self.now }
+    {
+        Table {
+            rings: [
+                self.ring_at(0),
+                self.ring_at(1),
+                self.ring_at(2),
+                self.ring_at(3),
+                self.ring_at(4),
+                self.ring_at(5),
+                self.ring_at(6),
+                self.ring_at(7),
+            ],
+        }
+    }
+
     /// The table that lies there; refused as not sound where a byte that stands for a truth of a started update is neither 0 nor 1.
     pub fn table(&self) -> Result<Table, Refusal>
         ensures { LiesIn self.now result }
@@ -89,30 +119,40 @@ impl LentTable {
         self.pending[u] = ring.pending;
     }
 
+    /// What a start of update u puts into the fields of that update, where it is accepted.
+    pub fn started(&self, u: usize, nodes: usize, flags: &[u8]) -> Result<LentRing, Refusal>
+        ensures { Puts self.now (Start u nodes flags.now) result }
+    {
+        let mut table = self.table()?;
+        table.start_checked(u, nodes, flags)?;
+        Ok(LentRing::from(table.rings[u]))
+    }
+
     /// A start of update u in place; a refusal changes nothing.
     pub fn start(&mut self, u: usize, nodes: usize, flags: &[u8]) -> Result<(), Refusal>
         ensures { AnsweredTo self.old (Start u nodes flags.now) (code_of (verdict_from result)) self.new }
     {
-        match self.table()?.start(u, nodes, flags) {
-            Ok(begun) => {
-                self.put(u, &LentRing::from(begun.rings[u]));
-                Ok(())
-            }
-            Err(refused) => Err(refused.refusal),
-        }
+        let ring = self.started(u, nodes, flags)?;
+        self.put(u, &ring);
+        Ok(())
+    }
+
+    /// What a step of update u by its kind number puts into the fields of that update, where it is accepted.
+    pub fn stepped(&self, u: usize, kind: usize, i: usize, j: usize) -> Result<LentRing, Refusal>
+        ensures { Puts self.now (step_ask u kind i j) result }
+    {
+        let mut table = self.table()?;
+        table.step_checked(u, flag_bytes::kind_byte(kind), i, j)?;
+        Ok(LentRing::from(table.rings[u]))
     }
 
     /// A step of update u in place, by its kind number; a refusal changes nothing.
     pub fn step(&mut self, u: usize, kind: usize, i: usize, j: usize) -> Result<(), Refusal>
         ensures { AnsweredTo self.old (step_ask u kind i j) (code_of (verdict_from result)) self.new }
     {
-        match self.table()?.step(u, flag_bytes::kind_byte(kind), i, j) {
-            Ok(next) => {
-                self.put(u, &LentRing::from(next.rings[u]));
-                Ok(())
-            }
-            Err(refused) => Err(refused.refusal),
-        }
+        let ring = self.stepped(u, kind, i, j)?;
+        self.put(u, &ring);
+        Ok(())
     }
 
     /// Is the table sound?

@@ -28,7 +28,7 @@ impl Tree {
         requires { node < 16 }
         ensures { result ≡ is_child self.now.root self.now.engager engager node }
     {
-        node != self.root && usize::from(self.engager[node]) == engager
+        (node != self.root) & (usize::from(self.engager[node]) == engager)
     }
 
     // How many nodes have this engager, the root not counted.
@@ -36,9 +36,12 @@ impl Tree {
         ensures total { result ≡ children self.now.root self.now.engager engager }
         ensures small { result ≤ 16 }
     {
-        (0..TREE_NODES)
-            .filter(|node| self.is_child(*node, engager))
-            .count() as u64
+        // Kept: a loop without a branch in place of `filter`, and below in place of `all`, so that several places are tested at once.
+        let mut children = 0;
+        for node in 0..TREE_NODES {
+            children += u64::from(self.is_child(node, engager));
+        }
+        children
     }
 
     // Where 16 links of engagers lead from a node: to the root, where any number of them does.
@@ -70,7 +73,7 @@ impl Tree {
         requires { (from < 16) × (to < 16) }
         ensures { result ≡ pair_test self.now from to }
     {
-        self.transit[from * TREE_NODES + to] == 0 || (from < self.n && to < self.n)
+        (self.transit[from * TREE_NODES + to] == 0) | ((from < self.n) & (to < self.n))
     }
 
     // Are the messages from a place only from a node to a node, itself or another?
@@ -78,7 +81,12 @@ impl Tree {
         requires { from < 16 }
         ensures { result ≡ all_to 16 (pair_test self.now from) }
     {
-        (0..TREE_NODES).all(|to| self.is_pair_sound(from, to))
+        // Kept: as in the count above.
+        let mut sound = true;
+        for to in 0..TREE_NODES {
+            sound &= self.is_pair_sound(from, to);
+        }
+        sound
     }
 
     // Is an engaged place a node under a node, its chain of engagers ending at the root, and any other place passive with nothing unacknowledged?

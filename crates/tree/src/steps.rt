@@ -52,15 +52,22 @@ impl Tree {
         self.apply_open(Request::try_from((kind, i, j))?)
     }
 
-    /// A step of any state by its kind number, 1 to 6: the next state, or the refusal and the very state handed in. An unsound state is refused with 3 before all else.
-    #[tactic(auto, using(tree_rules::proofs::Soundness::sound_true), unfolding(tree_rules::specs::Answers::answer_of, tree_rules::specs::Answers::verdict_of))]
+    /// A step of any state by its kind number, in place: an unsound state is refused with 3 before all else.
+    #[tactic(auto, unfolding(tree_rules::specs::Answers::answer_of, tree_rules::specs::Answers::verdict_of))]
+    pub fn step_checked(&mut self, kind: u8, i: usize, j: usize) -> Result<(), Refusal>
+        ensures { handed result self.new ≡ step_of self.old kind i j }
+    {
+        if !self.is_sound() {
+            return Err(Refusal::Unsound);
+        }
+        self.step_in_place(kind, i, j)
+    }
+
+    /// A step of any state by its kind number, 1 to 6: the next state, or the refusal and the very state handed in.
     pub fn step(mut self, kind: u8, i: usize, j: usize) -> Result<Tree, Refused<Tree>>
         ensures { answer result ≡ step_of self kind i j }
     {
-        if !self.is_sound() {
-            return returned(self, Err(Refusal::Unsound));
-        }
-        let answer = self.step_in_place(kind, i, j);
+        let answer = self.step_checked(kind, i, j);
         returned(self, answer)
     }
 

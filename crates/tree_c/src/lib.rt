@@ -4,7 +4,7 @@
 ghost use Rattle.std.specs.Prelude.{◌≡◌};
 ghost use Rattle.lent.specs.Tree.{lent_tree, ReadAs, TreeStartedTo, TreeSteppedTo, WrittenAs, tree_sound_number};
 
-use refusal::{TREE_NODES, TREE_PAIRS};
+use refusal::{Refusal, TREE_NODES, TREE_PAIRS};
 use tree::Tree;
 use tree_fields::LentTree;
 
@@ -78,7 +78,7 @@ pub extern "C" fn muzserlik_tree_is_sound_fields(
     u8::from(tree.is_sound())
 }
 
-/// A step in place: the number of its answer, 0 where it is accepted.
+/// A step in place: the number of its answer, 0 where it is accepted. A refusal writes nothing.
 #[unsafe(no_mangle)]
 pub extern "C" fn muzserlik_tree_step_fields(
     n: usize,
@@ -108,7 +108,9 @@ pub extern "C" fn muzserlik_tree_step_fields(
         sends: *sends,
         closed: *closed,
     };
-    let answer = tree.step(kind, i, j);
+    if let Err(refusal) = tree.step(kind, i, j) {
+        return refusal.number();
+    }
     *active = tree.active;
     *engager = tree.engager;
     *unacked = tree.unacked;
@@ -116,7 +118,7 @@ pub extern "C" fn muzserlik_tree_step_fields(
     *acks = tree.acks;
     *sends = tree.sends;
     *closed = tree.closed;
-    refusal::code(answer)
+    0
 }
 
 /// The text of a tree in the buffer: the number of the answer, 0 where it is written, and then its length in `length`.
@@ -148,14 +150,14 @@ pub extern "C" fn muzserlik_tree_write_fields(
         sends,
         closed,
     };
-    match lent.tree() {
-        Ok(tree) => match tree_writer::write(&tree, buf) {
-            Ok(written) => {
-                *length = written;
-                0
-            }
-            Err(refusal) => refusal.number(),
-        },
+    if !lent.has_truths() {
+        return Refusal::Unsound.number();
+    }
+    match tree_writer::write(&lent.gathered(), buf) {
+        Ok(written) => {
+            *length = written;
+            0
+        }
         Err(refusal) => refusal.number(),
     }
 }

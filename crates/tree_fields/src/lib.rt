@@ -1,8 +1,8 @@
 // A tree as other languages lend it: its fields, with a byte for each truth.
 #![tactic(auto)]
 
-ghost use Rattle.std.specs.Prelude.{◌≡◌};
-ghost use Rattle.lent.specs.Tree.{TreeSteppedTo, tree_truths_test};
+ghost use Rattle.std.specs.Prelude.{◌≡◌, OnErr};
+ghost use Rattle.lent.specs.Tree.{TreeSteppedTo, tree_of, tree_truths_test};
 ghost use Rattle.refusal.specs.Answers.{verdict_from};
 ghost use Rattle.refusal.specs.Table.{code_of};
 ghost use Rattle.tree_fields.specs.Fields.{found_sound, tree_in};
@@ -56,22 +56,19 @@ impl From<Tree> for LentTree {
 }
 
 impl LentTree {
-    // Is each byte of a truth 0 or 1?
+    /// Is each byte of a truth 0 or 1?
     #[tactic(auto, unfolding(lent::specs::Tree::tree_truths_test))]
-    fn has_truths(&self) -> bool
+    pub fn has_truths(&self) -> bool
         ensures { result ≡ tree_truths_test self.now }
     {
         flag_bytes::are_flags(&self.active) && self.closed <= 1
     }
 
-    /// The tree that lies in the fields. A byte of a truth that is above 1 is refused with 3.
-    pub fn tree(&self) -> Result<Tree, Refusal>
-        ensures { result ≡ tree_in self.now }
+    /// The tree that the fields say, whatever their bytes: 1 alone is true.
+    pub fn gathered(&self) -> Tree
+        ensures { result ≡ tree_of self.now }
     {
-        if !self.has_truths() {
-            return Err(Refusal::Unsound);
-        }
-        Ok(Tree {
+        Tree {
             n: self.n,
             root: self.root,
             active: flag_bytes::truths(&self.active),
@@ -81,17 +78,24 @@ impl LentTree {
             acks: self.acks,
             sends: self.sends,
             closed: self.closed == 1,
-        })
+        }
+    }
+
+    /// The tree that lies in the fields. A byte of a truth that is above 1 is refused with 3.
+    pub fn tree(&self) -> Result<Tree, Refusal>
+        ensures { result ≡ tree_in self.now }
+    {
+        if !self.has_truths() {
+            return Err(Refusal::Unsound);
+        }
+        Ok(self.gathered())
     }
 
     /// Is each byte of a truth 0 or 1, and the tree sound?
     pub fn is_sound(&self) -> bool
         ensures { result ≡ found_sound self.now }
     {
-        match self.tree() {
-            Ok(tree) => tree.is_sound(),
-            Err(_) => false,
-        }
+        self.has_truths() && self.gathered().is_sound()
     }
 
     /// A step by its kind number, 1 to 6, in place; whatever is refused leaves the fields as they were.
@@ -99,13 +103,14 @@ impl LentTree {
         ensures told { TreeSteppedTo self.old kind i j (code_of (verdict_from result)) self.new }
         ensures nodes { self.new.n ≡ self.old.n }
         ensures root { self.new.root ≡ self.old.root }
+        ensures same { OnErr result (self.new ≡ self.old) }
     {
-        match self.tree()?.step(flag_bytes::kind_byte(kind), i, j) {
-            Ok(next) => {
-                *self = LentTree::from(next);
-                Ok(())
-            }
-            Err(refused) => Err(refused.refusal),
+        if !self.has_truths() {
+            return Err(Refusal::Unsound);
         }
+        let mut tree = self.gathered();
+        tree.step_checked(flag_bytes::kind_byte(kind), i, j)?;
+        *self = LentTree::from(tree);
+        Ok(())
     }
 }

@@ -1,6 +1,6 @@
 -- What the turns of the program come to. Assumes nothing.
 use Prim.Native.Nat.{◌+◌, ◌<◌, ℕ}
-use lib.ListN.{length, length-take, take}
+use lib.ListN.{length, length-append, length-take, take}
 use borrow.Author.Tests.{eqb-false, eqb-true}
 use lib.Dec.{eqb}
 use mathlib.Core.Bool.{◌||◌, false, true}
@@ -8,21 +8,22 @@ use mathlib.Core.List.{List, [], ◌++◌, ◌∷◌, append_assoc, append-nil}
 use mathlib.Core.Logic.{◌⊎◌, inl, inr}
 use mathlib.Core.Path.{◌∙◌, ◌≡◌, ap, refl, subst, subst⁻¹, sym}
 use native.Mathlib.Omega.{arith}
-use Rattle.laws.proofs.Tests.{neither, one_of}
+use Rattle.laws.proofs.Tests.{false_true, neither, one_of}
 use Rattle.log_lines.specs.Stages.{SoundStage}
 use Rattle.log_rules.specs.Answers.{fresh}
 use Rattle.log_rules.specs.Lines.{joined}
 use Rattle.log_rules.specs.Output.{output_of, rest_of}
 use Rattle.log_rules.specs.Pieces.{PartLine, empty}
 use Rattle.std.proofs.KnownBytes.{Appends-kept, Appends-trans, Consumes-kept, Consumes-trans}
-use Rattle.std.specs.Io.KnownBytes.{Appends, Consumes, IsAtEnd}
-use Rattle.std.specs.Prelude.{Err, IfSome, MatchResult, None, Ok, OnErr, OnOk, Option, Result, Some}
+use Rattle.std.specs.Io.KnownBytes.{Appends, Consumes, IsAtEnd, Keeps, ReadConsumes}
+use Rattle.std.specs.Prelude.{Err, IfSome, IsErr, MatchResult, None, Ok, OnErr, OnOk, Option, Result, Some}
+use Rattle.std.specs.declared.io.Error.{Error}
 use Rattle.watch_log.proofs.Theorems.{front, settled}
 use Rattle.watch_log.specs.Feed.{Good, LogState, decided, decided_by}
 use Rattle.watch_log.specs.Finish.{Finished}
-use Rattle.watch.proofs.Known.{begun, whole}
-use Rattle.watch.specs.Run.{AllRead, IsOver, ProgramFailed, ProgramRan, Pumped, PumpFailed, Turns, another, at_end, none}
-use Rattle.watch.specs.Turn.{Begun, Stopped, Turned, no_read, no_write}
+use Rattle.watch.proofs.Known.{begins, begun, whole}
+use Rattle.watch.specs.Run.{AllRead, Going, IsOver, ProgramFailed, ProgramRan, Pumped, PumpFailed, Turns, another, at_end, none, stopped, turn_limit, turns_ran_out}
+use Rattle.watch.specs.Turn.{Stopped, Turned, Unwritten, no_read, no_write}
 use Rattle.log_rules.specs.Answers as rules
 
 -- what is told of a result
@@ -68,15 +69,10 @@ turns_output (another {l} {l'} {p} {out} {out'} {texts} {ps} count turns all mor
     ∙ (sym (append_assoc texts f.written (rest_of l'.stage l'.lines l'.held rest))
     ∙ ap (λ (x : List ℕ). (texts ++ x) ++ rest_of l'.stage l'.lines l'.held rest) (sym (front out f.written out' count f.wrote f.room))))))
 
--- so far, where nothing is over
-pub record Going (before after old new : Option (List ℕ)) (l : LogState) : Type 0 where
-  pub pieces : List (List ℕ)
-  pub texts : List ℕ
-  pub turns : Turns pieces texts l
-  pub read : Consumes before after (joined pieces)
-  pub wrote : Appends old new texts
-  pub all : AllRead pieces
-  pub more : decided l ≡ false
+-- a read that failed read nothing
+none_read : (before after : Option (List ℕ)) (r : Result ℕ Error) (buffer : List ℕ) → IsErr r → ReadConsumes before after r buffer → Keeps before after
+none_read before after (Ok x) buffer is read = absurd (false_true is)
+none_read before after (Err e) buffer is read = read
 
 -- is the log over?
 over_of : (after : Option (List ℕ)) (l : LogState) (got : ℕ) → (got ≡ 0 → IsAtEnd after) → (eqb got 0 || decided l) ≡ true → IsOver after l
@@ -94,10 +90,11 @@ start_open l e =
     (subst⁻¹ (λ (h : List ℕ). decided_by fresh 0 (length h) ≡ false) e.2 refl))
 
 pub start_going : (before old : Option (List ℕ)) (l : LogState) → (l.stage ≡ fresh) × (l.lines ≡ 0) × (l.held ≡ [])
-    → Consumes before before [] → Appends old old [] → Going before before old old l
+    → Consumes before before [] → Appends old old [] → Going 0 before before old old l
 start_going before old l e read wrote = record {
   pieces = [];
   texts = [];
+  made = refl;
   turns = none e;
   read = read;
   wrote = wrote;
@@ -105,10 +102,10 @@ start_going before old l e read wrote = record {
   more = start_open l e;
 }
 
-module _ {before after old new : Option (List ℕ)} {l : LogState} (g : Going before after old new l) where
+module _ {n : ℕ} {before after old new : Option (List ℕ)} {l : LogState} (g : Going n before after old new l) where
   -- the turns ran out
-  pub ran_out : PumpFailed before after old new
-  ran_out = record {
+  pub ran_out : n ≡ turn_limit → PumpFailed before after old new
+  ran_out most = record {
     pieces = g.pieces;
     texts = g.texts;
     log = l;
@@ -116,7 +113,11 @@ module _ {before after old new : Option (List ℕ)} {l : LogState} (g : Going be
     read = g.read;
     count = length g.texts;
     no_end = whole old new g.texts g.wrote;
+    why = turns_ran_out most g;
   }
+
+  one_more : (p : List ℕ) → length (g.pieces ++ (p ∷ [])) ≡ n + 1
+  one_more p = omega (arith, g.made, length-append g.pieces (p ∷ []))
 
   now_read : (after' : Option (List ℕ)) (p : List ℕ) → Consumes after after' p → Consumes before after' (joined (g.pieces ++ (p ∷ [])))
   now_read after' p read =
@@ -131,10 +132,11 @@ module _ {before after old new : Option (List ℕ)} {l : LogState} (g : Going be
       wrote : Appends old new' (g.texts ++ take t.count t.out')
       wrote = Appends-trans old new new' g.texts (take t.count t.out') g.wrote t.wrote
 
-      pub goes_on : (eqb got 0 || decided l') ≡ false → Going before after' old new' l'
+      pub goes_on : (eqb got 0 || decided l') ≡ false → Going (n + 1) before after' old new' l'
       goes_on e = record {
         pieces = g.pieces ++ (take got buffer ∷ []);
         texts = g.texts ++ take t.count t.out';
+        made = one_more (take got buffer);
         turns = turns;
         read = now_read after' (take got buffer) t.read;
         wrote = wrote;
@@ -143,13 +145,14 @@ module _ {before after old new : Option (List ℕ)} {l : LogState} (g : Going be
       }
 
       -- and the last one
-      pub pumped : (eqb got 0 || decided l') ≡ true → Pumped before after' old new' l'
-      pumped e = record {
+      pub pumped : n < turn_limit → (eqb got 0 || decided l') ≡ true → Pumped before after' old new' l'
+      pumped under e = record {
         pieces = g.pieces ++ (take got buffer ∷ []);
         texts = g.texts ++ take t.count t.out';
         turns = turns;
         read = now_read after' (take got buffer) t.read;
         wrote = wrote;
+        most = omega (arith, one_more (take got buffer));
         over = over_of after' l' got t.end e;
         ends_so = λ all. go all (one_of (eqb got 0) (decided l') e);
       }
@@ -159,24 +162,26 @@ module _ {before after old new : Option (List ℕ)} {l : LogState} (g : Going be
           go all (inr h) = h
 
     -- a turn in which a read or a write failed
-    pub stops : Stopped after after' new new' l l' → PumpFailed before after' old new'
-    stops (no_read kept same) = record {
+    pub stops : n < turn_limit → Stopped after after' new new' l l' → PumpFailed before after' old new'
+    stops under (no_read r buffer is read same) = record {
       pieces = g.pieces;
       texts = g.texts;
       log = l;
       turns = g.turns;
-      read = Consumes-kept before after after' (joined g.pieces) g.read kept;
+      read = Consumes-kept before after after' (joined g.pieces) g.read (none_read after after' r buffer is read);
       count = length g.texts;
       no_end = whole old new' g.texts (Appends-kept old new new' g.texts g.wrote same);
+      why = stopped {l' = l'} under g (no_read r buffer is read same);
     }
-    stops (no_write got count buffer out out' size read fed part) = record {
+    stops under (no_write got count buffer out out' size read fed unwritten) = record {
       pieces = g.pieces ++ (take got buffer ∷ []);
       texts = g.texts ++ take count out';
       log = l';
       turns = another count g.turns g.all g.more (omega (arith, size, length-take got buffer)) fed;
       read = now_read after' (take got buffer) read;
-      count = length g.texts + part.count;
-      no_end = begun old new new' g.texts (take count out') part.count g.wrote part.wrote;
+      count = length g.texts + (begins unwritten).count;
+      no_end = begun old new new' g.texts (take count out') (begins unwritten).count g.wrote (begins unwritten).wrote;
+      why = stopped under g (no_write got count buffer out out' size read fed unwritten);
     }
 
 -- the log has ended, or it is decided
@@ -197,6 +202,7 @@ module _ {before after old new : Option (List ℕ)} {l : LogState} (g : Pumped b
     log = l;
     turns = g.turns;
     read = g.read;
+    most = g.most;
     over = g.over;
     ends_so = g.ends_so;
     output =
@@ -206,11 +212,11 @@ module _ {before after old new : Option (List ℕ)} {l : LogState} (g : Pumped b
         turns_output g.turns rest ∙ (ap (λ (x : List ℕ). g.texts ++ x) (settled.same l rest (turns_good g.turns) e) ∙ all);
   }
 
-  pub end_cut : {new' : Option (List ℕ)} → Begun new new' (take r out') → ProgramFailed before after old new'
-  end_cut {new'} part = at_end new l g part.count begins (Appends-trans old new new' g.texts (take part.count (left [])) g.wrote begins)
-    where
-      begins : Appends new new' (take part.count (left []))
-      begins = subst (λ (x : List ℕ). Appends new new' (take part.count x)) ends part.wrote
+  pub end_cut : {new' : Option (List ℕ)} → Unwritten new new' (take r out') → ProgramFailed before after old new'
+  end_cut {new'} unwritten =
+      let why : Unwritten new new' (left []) = subst (Unwritten new new') ends unwritten in
+      let part = begins why in
+      at_end new l g part.count part.wrote (Appends-trans old new new' g.texts (take part.count (left [])) g.wrote part.wrote) why
 
 -- the whole output is written, where the log is known
 pub whole_output : (before after old new : Option (List ℕ)) → ProgramRan before after old new

@@ -5,11 +5,12 @@ use mathlib.Core.List.{List}
 use mathlib.Core.Path.{◌≡◌}
 use native.Mathlib.Omega.{arith}
 use Rattle.std.proofs.KnownBytes.{Keeps-refl}
-use Rattle.std.specs.Io.KnownBytes.{Appends, Consumes, IsAtEnd, Keeps}
+use Rattle.std.specs.Io.KnownBytes.{Appends, Consumes, IsAtEnd, ReadConsumes}
 use Rattle.laws.proofs.Tests.{false_true}
 use Rattle.std.specs.Prelude.{Err, IsErr, MatchResult, Ok, Option, Result}
+use Rattle.std.specs.declared.io.Error.{Error}
 use Rattle.watch_log.specs.Feed.{FedFrom, LogState}
-use Rattle.watch.specs.Turn.{Begun, Stopped, Turned, no_read, no_write, piece_bytes}
+use Rattle.watch.specs.Turn.{Stopped, Turned, Unwritten, no_read, no_write, piece_bytes}
 
 -- what is told of a result that is an error
 pub failed_so : {A E Q : Type 0} (P : A → Type 0) (r : Result A E) → IsErr r → Q → MatchResult r P (λ e. Q)
@@ -31,11 +32,12 @@ turned size read fed wrote = record {
   wrote = wrote;
 }
 
-pub unread : {before after old : Option (List ℕ)} {l : LogState} → Keeps before after → Stopped before after old old l l
-unread {old = old} kept = no_read kept (Keeps-refl old)
+pub unread : {before after old : Option (List ℕ)} {l : LogState} (r : Result ℕ Error) (buffer : List ℕ) → IsErr r → ReadConsumes before after r buffer
+    → Stopped before after old old l l
+unread {old = old} r buffer is read = no_read r buffer is read (Keeps-refl old)
 
 pub unwritten : {before after old new : Option (List ℕ)} {l l' : LogState} {got count : ℕ} (buffer : List ℕ) {out out' : List ℕ}
-    → FedFrom l.stage l.lines l.held (take got buffer) l' count 0 out out' → Begun old new (take count out')
+    → FedFrom l.stage l.lines l.held (take got buffer) l' count 0 out out' → Unwritten old new (take count out')
     → Consumes before after (take got buffer) × (got ≡ 0 → 0 < length buffer → IsAtEnd after) → length buffer ≡ piece_bytes
     → Stopped before after old new l l'
-unwritten buffer fed begun read size = no_write _ _ buffer _ _ size read.0 fed begun
+unwritten buffer fed why read size = no_write _ _ buffer _ _ size read.0 fed why

@@ -2,7 +2,7 @@
 ghost use Rattle.std.specs.Prelude.{◌≡◌, ◌||◌, eqb, IfSome, MatchResult, OnOk};
 ghost use Rattle.std.specs.Io.KnownBytes.{Appends};
 ghost use Rattle.log_rules.specs.Output.{output_of};
-ghost use Rattle.watch_log.specs.Feed.{decided};
+ghost use Rattle.watch_log.specs.Feed.{decided, log_of};
 ghost use Rattle.watch.specs.Run.{Pumped, PumpFailed, ProgramRan, ProgramFailed};
 ghost use Rattle.watch.specs.Turn.{Stopped, Turned};
 
@@ -29,8 +29,8 @@ fn turn<R: Read, W: Write>(
     answers: &mut [u8; ANSWERS_BYTES],
 ) -> io::Result<usize>
     ensures { MatchResult result
-        (λ got. Turned (R.remaining reader.old) (R.remaining reader.new) (W.contents writer.old) (W.contents writer.new) log.old log.new got piece.new)
-        (λ e. Stopped (R.remaining reader.old) (R.remaining reader.new) (W.contents writer.old) (W.contents writer.new) log.old log.new) }
+        (λ got. Turned (R.remaining reader.old) (R.remaining reader.new) (W.contents writer.old) (W.contents writer.new) (log_of log.old) (log_of log.new) got piece.new)
+        (λ e. Stopped (R.remaining reader.old) (R.remaining reader.new) (W.contents writer.old) (W.contents writer.new) (log_of log.old) (log_of log.new)) }
 {
     let got = reader.read(piece)?;
     let count = log.feed(&piece[..got], answers);
@@ -40,7 +40,7 @@ fn turn<R: Read, W: Write>(
 
 // Is nothing more to be read? `got` bytes were, in the last turn.
 fn is_over(got: usize, log: &Log) -> bool
-    ensures { result ≡ (eqb got 0 || decided log.now) }
+    ensures { result ≡ (eqb got 0 || decided (log_of log.now)) }
 {
     got == 0 || log.is_decided()
 }
@@ -53,7 +53,7 @@ fn pump<R: Read, W: Write>(
     answers: &mut [u8; ANSWERS_BYTES],
 ) -> io::Result<Log>
     ensures { MatchResult result
-        (λ log. Pumped (R.remaining reader.old) (R.remaining reader.new) (W.contents writer.old) (W.contents writer.new) log)
+        (λ log. Pumped (R.remaining reader.old) (R.remaining reader.new) (W.contents writer.old) (W.contents writer.new) (log_of log))
         (λ e. PumpFailed (R.remaining reader.old) (R.remaining reader.new) (W.contents writer.old) (W.contents writer.new)) }
 {
     let mut log = Log::new();

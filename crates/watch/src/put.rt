@@ -1,7 +1,7 @@
 // Writing all bytes, and what is written where that fails.
 ghost use Rattle.std.specs.Prelude.{◌≤◌, length, take, IfOk, OnOk, OnErr};
 ghost use Rattle.std.specs.Io.KnownBytes.{Appends, Keeps};
-ghost use Rattle.watch.specs.Turn.{Begun};
+ghost use Rattle.watch.specs.Turn.{Begun, Unwritten};
 
 use std::io;
 use std::io::{ErrorKind, Write};
@@ -20,10 +20,11 @@ fn put_some<W: Write>(writer: &mut W, bytes: &[u8]) -> io::Result<usize>
 }
 
 /// Writes all bytes, as `write_all` does. Where a write fails, a beginning of them stands there, and nothing else.
-#[tactic(auto, using(crate::proofs::Known::more_written, crate::proofs::Known::cut_short, crate::proofs::Known::nothing_more))]
+#[tactic(auto, using(crate::proofs::Known::more_written, crate::proofs::Known::cut_short, crate::proofs::Known::nothing_more, crate::proofs::Known::write_more))]
 pub fn put_all<W: Write>(writer: &mut W, bytes: &[u8]) -> io::Result<()>
     ensures ok { OnOk result (Appends (W.contents writer.old) (W.contents writer.new) bytes.now) }
     ensures err { OnErr result (Begun (W.contents writer.old) (W.contents writer.new) bytes.now) }
+    ensures why { OnErr result (Unwritten (W.contents writer.old) (W.contents writer.new) bytes.now) }
 {
     let mut at = 0;
     for _ in 0..u64::MAX {

@@ -13,6 +13,7 @@ use Rattle.log_rules.proofs.Ends.{ended_append, ended_itself, unended_append}
 use Rattle.log_rules.specs.Lines.{line_limit}
 use Rattle.log_rules.specs.Output.{rest_of}
 use Rattle.log_rules.specs.Pieces.{OneLine, PartLine, another, empty, newline, preceded, long_bytes, not_told}
+use Rattle.watch_log.specs.Feed.{Resumed}
 use Rattle.watch_log.specs.Held.{keep, kept}
 use Rattle.decimal.proofs.Cases as cases
 use Rattle.log_rules.specs.Answers as rules
@@ -110,6 +111,13 @@ part_rest {held} {line} p st k rest = go (cases.split (length line) long_bytes)
     go : (length line < long_bytes) ⊎ (long_bytes ≤ length line) → rest_of st k line rest ≡ rest_of st k held rest
     go (inl lt) = ap (λ (x : List ℕ). rest_of st k x rest) (sym (p.stands.small (omega arith)))
     go (inr le) = rest_long st k p.line_part p.held_part (omega arith) (p.stands.long (omega arith)) rest
+
+-- a log that goes on
+pub goes_on : (st : rules.Stage) (k : ℕ) {held held' : List ℕ} → PartLine held → held' ≡ kept [] held
+    → Resumed st k held (record { stage = st; lines = k; held = held' })
+goes_on st k {held} u is =
+    let p = subst (λ (x : List ℕ). Parts x held) (sym is) (kept_part u (itself empty)) in
+    record { stage = refl; lines = refl; held = is; short = p.stands.small; left = part_rest p st k }
 
 -- a line by itself; and one that is too long
 pub told_line : (s : rules.Stage) (k : ℕ) {l : List ℕ} → k < line_limit → OneLine l → {x : rules.Told} → rules.line_told s (k + 1) l ≡ x

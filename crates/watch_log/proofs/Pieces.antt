@@ -77,7 +77,7 @@ part_held lines next piece spent under nothing inside is =
     })
 
 -- a whole line as a piece by itself
-went_whole : {s s' : rules.Stage} {k k' n at at' : ℕ} {l out out' : List ℕ} (w : Went s s' k k' 0 n at at' l out out') → NoMore k' n l → OneLine l
+pub went_whole : {s s' : rules.Stage} {k k' n at at' : ℕ} {l out out' : List ℕ} (w : Went s s' k k' 0 n at at' l out out') → NoMore k' n l → OneLine l
     → (rest : List ℕ) → rest_of s k [] (l ++ rest) ≡ w.written ++ rest_of s' k' [] rest
 went_whole {s' = s'} {k' = k'} {n = n} {l = l} w (full h) en rest =
     w.left rest ∙ ap (λ (x : List ℕ). w.written ++ x) (rest_full s' k' h [] (drop n l ++ rest) ∙ sym (rest_full s' k' h [] rest))

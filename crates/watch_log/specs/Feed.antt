@@ -1,11 +1,13 @@
 -- A log between two pieces, and what a piece of it comes to.
-use Rattle.std.specs.Prelude.{◌-◌, ◌≤◌, ℕ, leb, length, Bool, ◌&&◌, ◌||◌, true, List, ◌++◌, ◌≡◌}
+use Rattle.std.specs.Prelude.{◌-◌, ◌≤◌, ℕ, leb, length, Bool, ◌&&◌, ◌||◌, true, List, [], ◌++◌, ◌≡◌}
 use Rattle.forms.specs.Form.{line_bytes}
-use Rattle.log_lines.specs.Stages.{SoundStage}
+use Rattle.log_lines.specs.Stages.{SoundStage, stage_of}
 use Rattle.log_rules.specs.Lines.{line_limit}
 use Rattle.log_rules.specs.Output.{rest_of}
 use Rattle.log_rules.specs.Pieces.{PartLine}
 use Rattle.log_answers.specs.Wrote.{Wrote}
+use Rattle.watch_log.specs.Held.{HeldBytes, held_line, kept}
+use Rattle.log_lines.specs.declared.stage.Stage as code
 use Rattle.log_rules.specs.Answers as rules
 
 -- what a log has come to, how many lines of it are answered, and what is read of the next
@@ -13,6 +15,16 @@ pub record LogState : Type 0 where
   pub stage : rules.Stage
   pub lines : ℕ
   pub held : List ℕ
+
+-- the fields of the code's log
+pub record LogFields : Type 0 where
+  pub stage : code.Stage
+  pub lines : ℕ
+  pub held : HeldBytes
+
+-- as the definitions see it
+abbrev pub log_of : LogFields → LogState
+log_of l = record { stage = stage_of l.stage; lines = l.lines; held = held_line l.held }
 
 -- what is true of every log between two pieces
 pub record Good (l : LogState) : Type 0 where
@@ -29,6 +41,15 @@ pub record FedFrom (s : rules.Stage) (k : ℕ) (held text : List ℕ) (l' : LogS
   pub wrote : Wrote out at written count out'
   pub room : count ≤ length out
   pub good : Good l'
+
+-- The log l goes on where k lines are answered by stage s and `part` is read of the next: whatever follows, the same is still to be written.
+-- A line that is too long is held as one with 701 bytes.
+pub record Resumed (s : rules.Stage) (k : ℕ) (part : List ℕ) (l : LogState) : Type 0 where
+  pub stage : l.stage ≡ s
+  pub lines : l.lines ≡ k
+  pub held : l.held ≡ kept [] part
+  pub short : length part ≤ line_bytes → l.held ≡ part
+  pub left : (rest : List ℕ) → rest_of s k part rest ≡ rest_of l.stage l.lines l.held rest
 
 -- the last line is answered; or it is the next
 abbrev pub all_answered : ℕ → Bool

@@ -5,4 +5,4 @@
 mod held;
 mod state;
 
-pub use state::Log;
+pub use state::{Log, is_decided};

@@ -14,7 +14,7 @@ const WALK_LOOP: &str = "for node in (0..self.n).rev() {";
 /// after the walk.
 const LOOPS: [(&str, &str); 3] = [
     ("color::are_zero", "bytes.iter().all(|byte| "),
-    ("ring::is_empty_from_n", "(self.n..RING_NODES).all(|node| "),
+    ("ring::is_empty_from_n", "for node in self.n..RING_NODES {"),
     (WALK, WALK_LOOP),
 ];
 
@@ -277,10 +277,10 @@ fn another_run_of_the_walk_is_found() {
     let text = twice.get_mut("ring").expect("it");
     *text = text.replacen("if !seen.flows()", "if !self.seen().flows()", 1);
     text.push_str("\nfn seen(self) -> Seen\n{\n    self.walk()\n}\n");
-    let white = "!self.active[node]\n";
+    let empty = "empty &= !self.active[node]";
     let in_a_loop = changed(
-        white,
-        "color::white_from(&self.color, node) && !self.active[node]\n",
+        empty,
+        "empty &= color::white_from(&self.color, node) & !self.active[node]",
     );
     for (k, code) in [in_unused, twice, in_a_loop].iter().enumerate() {
         assert!(!faults(code).is_empty(), "text {k}");

@@ -13,5 +13,5 @@ returns-clause-output g c =
 
 pub returns-clause-ran : goal.returns-clause-ran
 returns-clause-ran g c =
-    either c.put_all.result c.put_all.ensures.ok c.put_all.ensures.err (ran c.in_ok-log.ensures c.finish-count.ensures)
+    either c.put_all.result c.put_all.ensures.ok c.put_all.ensures.why (ran c.in_ok-log.ensures c.finish-count.ensures)
     (end_cut c.in_ok-log.ensures c.finish-count.ensures)

@@ -1,15 +1,27 @@
-use Rattle.std.proofs.Common.{arith, rules, tests, ◌∙◌}
-use Rattle.std.proofs.lemmas.Iterator.{YieldsList-from_range}
-use Rattle.std.proofs.lemmas.Iterator.Consumers.{YieldsList-from_filter, count_from_yields_List}
-use Rattle.std.proofs.lemmas.List.Sums.{length-filter}
-use Rattle.std.specs.List.{range_with_len}
+use Rattle.std.proofs.Common.{◌≡◌, ap, arith, refl, true, false, ℕ, Bool, ◌≤◌, ◌∙◌}
+use Rattle.std.specs.Prelude.{cond}
+use Rattle.std.specs.Int.{from_bool}
+use Rattle.laws.proofs.Sums.{count_next, count_none}
+use Rattle.laws.specs.Sums.{count_to}
 use Rattle.tree_rules.specs.State.{children, is_child}
-use Rattle.tree.proofs.Ranges.{count_range}
 use Rattle.tree.proofs.state.Tree.children_of.Goals as goal
+
+one_of : (b : Bool) → (from_bool b ≡ cond b 1 0) × (from_bool b ≤ 1)
+one_of true = (refl, omega arith)
+one_of false = (refl, omega arith)
+
+pub loop-node-init : goal.loop-node-init
+loop-node-init c = omega (arith, count_none (is_child c.args.self.now.root c.args.self.now.engager c.args.engager))
+
+pub loop-node-preserved : goal.loop-node-preserved
+loop-node-preserved c =
+    let test = is_child c.args.self.now.root c.args.self.now.engager c.args.engager in
+    let one = one_of c.is_child.result in
+    let told : c.from-children.result ≡ cond (test c.loop-node.node) 1 0 = c.from-children.ensures ∙ one.0 ∙ ap (λ (b : Bool). cond b 1 0) c.is_child.ensures in
+    omega (arith, told, one.1, count_next c.loop-node.node test)
 
 pub returns-clause-total : goal.returns-clause-total
 unfolding children
 returns-clause-total c =
-    let test = is_child c.args.self.now.root c.args.self.now.engager c.args.engager in
-    count_from_yields_List c.filter.result _ c.count.ensures.ran (YieldsList-from_filter _ (is_child c.args.self.now.root c.args.self.now.engager c.args.engager) (YieldsList-from_range 0 16 16 c.filter.ensures.source (omega arith)) c.filter.ensures.closure (λ x b q k. search (rules, tests)))
-    ∙ length-filter (is_child c.args.self.now.root c.args.self.now.engager c.args.engager) (range_with_len 0 16) ∙ count_range test 16
+    let done : c.loop-node.node ≡ 16 = omega arith in
+    c.loop-node.invariant.0 ∙ ap (λ (x : ℕ). count_to x (is_child c.args.self.now.root c.args.self.now.engager c.args.engager)) done

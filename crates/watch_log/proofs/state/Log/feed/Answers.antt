@@ -4,11 +4,11 @@ use native.Mathlib.Omega.{arith}
 use Rattle.log_lines.proofs.Ends.{found_line, found_none}
 use Rattle.watch_log.proofs.Ends.{full_then}
 use Rattle.watch_log.proofs.Pieces.{fits_first, fits_last, full_fed, full_rest, part_fed, part_held, room_left, whole_fed}
-use Rattle.watch_log.specs.Feed.{Good}
+use Rattle.watch_log.specs.Feed.{Good, LogFields, log_of}
 use Rattle.watch_log.proofs.state.Log.feed.Goals as goal
 
 pub returns-then-is_full : goal.returns-then-is_full
-returns-then-is_full c = full_fed _ _ _ (full_then _ (sym c.is_full.ensures ∙ c.if-is_full.true)) (subst Good c.self.view_is c.self.invariant)
+returns-then-is_full c = full_fed _ _ _ (full_then _ (sym c.is_full.ensures ∙ c.if-is_full.true)) (subst (λ (l : LogFields). Good (log_of l)) c.self.view_is c.self.invariant)
 
 pub invariant_of-self : goal.invariant_of-self
 invariant_of-self c =

@@ -8,6 +8,7 @@ use Rattle.log_answers.proofs.Texts.{answer_short, wrote_then}
 use Rattle.refusal.specs.Table.{Refused}
 use Rattle.refusal.specs.declared.Refusal.TheVariants.{NotAForm}
 use Rattle.watch_log.proofs.Ends.{finished, fresh_end, run_end}
+use Rattle.watch_log.specs.Held.{held_line}
 use Rattle.log_lines.specs.declared.stage.Stage.TheVariants as stages
 use Rattle.watch_log.proofs.state.Log.finish.Goals as goal
 
@@ -60,4 +61,4 @@ pub returns-in-Over : goal.returns-in-Over
 unfolding put
 returns-in-Over c =
     rw (← c.self.view_is)
-    (finished _ (ap stage_of c.in-Over.is) (rest_over c.self.inside.lines c.self.inside.held []) (refl, refl) (omega arith))
+    (finished _ (ap stage_of c.in-Over.is) (rest_over c.self.inside.lines (held_line c.self.inside.held) []) (refl, refl) (omega arith))
